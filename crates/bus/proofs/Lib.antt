@@ -1,0 +1,4 @@
+pub mod Cutting
+pub mod Congruence
+pub mod Stability
+pub mod Distance

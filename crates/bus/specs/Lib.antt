@@ -1,0 +1,6 @@
+pub mod Numbers
+pub mod Map
+pub mod Target
+pub mod Payload
+pub mod Serve
+pub mod Laws
