@@ -1,4 +1,9 @@
+pub mod Statuses
 pub mod Cutting
 pub mod Congruence
 pub mod Stability
 pub mod Distance
+pub mod Marks
+pub mod Parts
+pub mod Beats
+pub mod Sofar

@@ -1,6 +1,6 @@
 -- The numbers of commands, statuses and refusals.
 use mathlib.Core.Path.{_≡_}
-use mathlib.Core.Bool.{cond}
+use mathlib.Core.Bool.{Bool, true, false, cond}
 use Prim.Native.Nat.{ℕ}
 use lib.Dec.{eqb}
 use lib.IntN.{ℤ, pos, negsuc}
@@ -28,6 +28,12 @@ statusNumber Okay = pos 1
 statusNumber AddressError = negsuc 1
 statusNumber CommandError = negsuc 2
 statusNumber GenericError = negsuc 0
+
+abbrev pub isOkay : Status → Bool
+isOkay Okay = true
+isOkay AddressError = false
+isOkay CommandError = false
+isOkay GenericError = false
 
 abbrev pub refusalNumber : Refusal → ℕ
 refusalNumber UnknownPort = 1

@@ -44,10 +44,13 @@ access p = record { command = p .command; address = p .address; length = p .leng
 abbrev pub first : Bool → Refusal → Option Refusal → Option Refusal
 first fails r rest = cond fails (Some r) rest
 
--- Each enable byte is 0x00 or 0xFF.
+-- An enable byte is 0x00 (disabled) or 0xFF (enabled).
+abbrev pub isEnable : ℕ → Bool
+isEnable e = eqb e 0 || eqb e 255
+
 abbrev pub onlyEnables : List ℕ → Bool
 onlyEnables [] = true
-onlyEnables (e ∷ es) = (eqb e 0 || eqb e 255) && onlyEnables es
+onlyEnables (e ∷ es) = isEnable e && onlyEnables es
 
 -- Why fields make no payload, if they make none.
 abbrev pub illMade : Raw → Option Refusal

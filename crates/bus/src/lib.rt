@@ -3,6 +3,8 @@ mod kinds;
 mod laws;
 mod numbers;
 mod payload;
+mod payloads;
+mod serving;
 mod span;
 mod target;
 
@@ -13,5 +15,6 @@ pub use kinds::Refusal;
 pub use kinds::Status;
 pub use laws::laws_hold;
 pub use payload::Payload;
+pub use serving::serve;
 pub use span::Span;
 pub use target::Target;

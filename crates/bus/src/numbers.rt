@@ -1,5 +1,5 @@
 ghost use mathlib.Core.Path.{_≡_};
-ghost use Rattle.bus.specs.Numbers.{commandNumber, numbered, statusNumber, refusalNumber, worse};
+ghost use Rattle.bus.specs.Numbers.{commandNumber, numbered, statusNumber, isOkay, refusalNumber, worse};
 use crate::kinds::Command;
 use crate::kinds::Refusal;
 use crate::kinds::Status;
@@ -27,6 +27,15 @@ impl Status {
             Status::AddressError => -2,
             Status::CommandError => -3,
             Status::GenericError => -1,
+        }
+    }
+
+    pub fn is_okay(self) -> bool
+        ensures { λ r. ⌜ r ≡ isOkay self ⌝ }
+    {
+        match self {
+            Status::Okay => true,
+            _ => false,
         }
     }
 
