@@ -1,0 +1,4 @@
+mod answers;
+mod platform;
+pub use answers::Blocked;
+pub use platform::Platform;

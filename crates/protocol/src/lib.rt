@@ -1,0 +1,3 @@
+mod making;
+mod settings;
+pub use settings::Settings;
