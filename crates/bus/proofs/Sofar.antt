@@ -64,7 +64,7 @@ pub record WriteSofar (p : Access) (m : AddressMap) (t : ℕ) (bytes : List ℕ)
   pub bound : delay ≤ 1000000 * k
 
 -- A beat of the payload p: its bytes lie from place i to place j, and its marks are cut out of the payload's.
-module _ (p : Access) (k i j : ℕ) (marks : List Bool) (wide : 1 ≤ p .width) (short : p .length ≤ 64) (begins : k * p .width < p .length) (from : i ≡ k * p .width) (to : j ≡ min (k * p .width + p .width) (p .length)) (are : marks ≡ marksFrom (p .enables) 0 64) where
+module _ (p : Access) (k i j : ℕ) (marks : List Bool) (wide : 1 ≤ p .width) (short : p .length ≤ 64) (begins : k * p .width < p .length) (from : i ≡ k * p .width) (to : j ≡ min (k * p .width + p .width) (p .length)) (are : marks ≡ marksFrom (p .enables) 0 64) (a : ℕ) (es : List Bool) (at : a ≡ p .address) (of : es ≡ cut i j marks) where
   beat-marks : cut i j marks ≡ marksFrom (p .enables) i (j - i)
   beat-marks = ap (cut i j) are ∙ marks-between (p .enables) i j 64 (omega arith) (omega arith)
 
@@ -85,8 +85,9 @@ module _ (p : Access) (k i j : ℕ) (marks : List Bool) (wide : 1 ≤ p .width) 
       cond-true (eqb (length part) (length (cut i j marks))) (judged m c (p .address) (cut i j marks)) GenericError (eq-eqb (length part) (length (cut i j marks)) (long ∙ sym count))
       ∙ judged-shorter m c (p .address) (marksFrom (p .enables) 0 (min (p .width) (p .length))) (cut i j marks) shorter okay
 
-  pub read-more : (m : AddressMap) (t : ℕ) (before buffer : List ℕ) (m₁ : AddressMap) (t₁ delay : ℕ) (r : Outcome) (after : List ℕ) (m₂ : AddressMap) (t₂ : ℕ) → length before ≡ p .length → length buffer ≡ p .length → Judged m Read p → ReadSofar p m t before k buffer m₁ t₁ delay → ReadAs m₁ t₁ (p .address) (cut i j marks) (cut i j buffer) r after m₂ t₂ → ReadSofar p m t before (k + 1) (putMid i (j - i) buffer after) m₂ t₂ (delay + r .delay)
-  read-more m t before buffer m₁ t₁ delay r after m₂ t₂ long₀ long okay sofar read =
+  pub read-more : (m : AddressMap) (t : ℕ) (before buffer : List ℕ) (m₁ : AddressMap) (t₁ delay : ℕ) (r : Outcome) (after : List ℕ) (m₂ : AddressMap) (t₂ : ℕ) → length before ≡ p .length → length buffer ≡ p .length → Judged m Read p → ReadSofar p m t before k buffer m₁ t₁ delay → ReadAs m₁ t₁ a es (cut i j buffer) r after m₂ t₂ → ReadSofar p m t before (k + 1) (putMid i (j - i) buffer after) m₂ t₂ (delay + r .delay)
+  read-more m t before buffer m₁ t₁ delay r after m₂ t₂ long₀ long okay sofar answered =
+      let read : ReadAs m₁ t₁ (p .address) (cut i j marks) (cut i j buffer) r after m₂ t₂ = subst (λ x. ReadAs m₁ t₁ (p .address) x (cut i j buffer) r after m₂ t₂) of (subst (λ x. ReadAs m₁ t₁ x es (cut i j buffer) r after m₂ t₂) at answered) in
       let final : List ℕ = foundFrom 0 p m before in
       let whole : length final ≡ p .length = length-found 0 p m before ∙ long₀ in
       let partly : Partly final before buffer i = subst (Partly final before buffer) here (sofar .bytes) in
@@ -111,8 +112,9 @@ module _ (p : Access) (k i j : ℕ) (marks : List Bool) (wide : 1 ≤ p .width) 
         bound = let a = mul-add 1000000 k 1 in omega (arith, sofar .bound, read .metered .only-the-delay-is-free);
       }
 
-  pub write-more : (m : AddressMap) (t : ℕ) (bytes : List ℕ) (m₁ : AddressMap) (t₁ delay : ℕ) (r : Outcome) (m₂ : AddressMap) (t₂ : ℕ) → length bytes ≡ p .length → WriteSofar p m t bytes k m₁ t₁ delay → WrittenAs m₁ t₁ (p .address) (cut i j marks) (cut i j bytes) r m₂ t₂ → WriteSofar p m t bytes (k + 1) m₂ t₂ (delay + r .delay)
-  write-more m t bytes m₁ t₁ delay r m₂ t₂ long sofar write =
+  pub write-more : (m : AddressMap) (t : ℕ) (bytes : List ℕ) (m₁ : AddressMap) (t₁ delay : ℕ) (r : Outcome) (m₂ : AddressMap) (t₂ : ℕ) → length bytes ≡ p .length → WriteSofar p m t bytes k m₁ t₁ delay → WrittenAs m₁ t₁ a es (cut i j bytes) r m₂ t₂ → WriteSofar p m t bytes (k + 1) m₂ t₂ (delay + r .delay)
+  write-more m t bytes m₁ t₁ delay r m₂ t₂ long sofar answered =
+      let write : WrittenAs m₁ t₁ (p .address) (cut i j marks) (cut i j bytes) r m₂ t₂ = subst (λ x. WrittenAs m₁ t₁ (p .address) x (cut i j bytes) r m₂ t₂) of (subst (λ x. WrittenAs m₁ t₁ x es (cut i j bytes) r m₂ t₂) at answered) in
       let size : length (cut i j bytes) ≡ j - i = length-part bytes long in
       let status : r .status ≡ Okay = write .status ∙ beat-status m₁ Write (cut i j bytes) size (sofar .judged) in
       let to-map : m₂ ≡ written (p .address) (cut i j marks) (cut i j bytes) m₁ = write .map-after ∙ ap (λ u. ifOkay u (written (p .address) (cut i j marks) (cut i j bytes) m₁) m₁) status in

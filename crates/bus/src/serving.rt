@@ -26,6 +26,18 @@ fn beat(payload: &Payload, k: usize) -> (usize, usize)
     (from, (from + payload.width).min(payload.length))
 }
 
+// The span of a beat: each starts at the payload's address and has the marks of its own bytes.
+fn beat_span<'a>(payload: &Payload, marks: &'a [bool], from: usize, to: usize) -> Span<'a>
+    requires { ⌜ (from < to) × (to ≤ length (now marks)) × (to ≤ 64) ⌝ }
+    ensures start { λ r. ⌜ r .start ≡ now (payload .entry) .address ⌝ }
+    ensures enabled { λ r. ⌜ now (r .enabled) ≡ take (to - from) (drop from (now (marks .entry))) ⌝ }
+{
+    Span {
+        start: payload.address,
+        enabled: &marks[from..to],
+    }
+}
+
 // Reads a payload that is judged 1, beat by beat, each on its own part of the buffer.
 fn read_beats<T: Target>(target: &mut T, payload: &Payload, buffer: &mut [u8]) -> u64
     requires length { ⌜ length (now buffer) ≡ now payload .length ⌝ }
@@ -39,10 +51,7 @@ fn read_beats<T: Target>(target: &mut T, payload: &Payload, buffer: &mut [u8]) -
     let mut delay = 0;
     for k in 0..payload.beats() {
         let (from, to) = beat(payload, k);
-        let span = Span {
-            start: payload.address,
-            enabled: &marks[from..to],
-        };
+        let span = beat_span(payload, &marks, from, to);
         delay += target.read(span, &mut buffer[from..to]).delay;
     }
     delay
@@ -60,10 +69,7 @@ fn write_beats<T: Target>(target: &mut T, payload: &Payload, bytes: &[u8]) -> u6
     let mut delay = 0;
     for k in 0..payload.beats() {
         let (from, to) = beat(payload, k);
-        let span = Span {
-            start: payload.address,
-            enabled: &marks[from..to],
-        };
+        let span = beat_span(payload, &marks, from, to);
         delay += target.write(span, &bytes[from..to]).delay;
     }
     delay

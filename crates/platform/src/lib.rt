@@ -1,4 +1,5 @@
 mod answers;
 mod platform;
+
 pub use answers::Blocked;
 pub use platform::Platform;

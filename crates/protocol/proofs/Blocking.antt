@@ -71,16 +71,16 @@ few-served p m some most =
     let few : (p .length - 1) / p .width + 1 ≤ 64 = let a = few-beats (p .length) (p .width) some in omega arith in
     let each : ifOkay (judgedAccess m p) ((p .length - 1) / p .width + 1) 0 ≤ 64 = if-few (judgedAccess m p) ((p .length - 1) / p .width + 1) few in
     elim (p .command) as (λ c. elim c [ Read ↦ ifOkay (judgedAccess m p) ((p .length - 1) / p .width + 1) 0 | Write ↦ ifOkay (judgedAccess m p) ((p .length - 1) / p .width + 1) 0 | Ignore ↦ 0 ] ≤ 64)
-      [ Read ↦ each | Write ↦ each | Ignore ↦ omega arith ]
+    [ Read ↦ each | Write ↦ each | Ignore ↦ omega arith ]
 
 -- A port's times stay within a limit.
 pub set-within : (xs : List ℕ) (i v most : ℕ) → ((k : ℕ) → getD xs k 0 ≤ most) → v ≤ most → (k : ℕ) → getD (set xs i v) k 0 ≤ most
 set-within xs i v most each le k =
     ⊎-elim (λ same. ⊎-elim (λ l. let e : getD (set xs i v) k 0 ≡ v = ap (λ x. getD (set xs i v) x 0) same ∙ getD-set-same xs i v 0 l in omega arith)
-                           (λ past. let e : getD (set xs i v) k 0 ≡ getD xs k 0 = ap (λ x. getD x k 0) (set-past xs i v past) in let h = each k in omega arith)
-                           (cases-lt i (length xs)))
-           (λ other. let e : getD (set xs i v) k 0 ≡ getD xs k 0 = getD-set-other xs i k v 0 other in let h = each k in omega arith)
-           (cases-eq k i)
+    (λ past. let e : getD (set xs i v) k 0 ≡ getD xs k 0 = ap (λ x. getD x k 0) (set-past xs i v past) in let h = each k in omega arith)
+    (cases-lt i (length xs)))
+    (λ other. let e : getD (set xs i v) k 0 ≡ getD xs k 0 = getD-set-other xs i k v 0 other in let h = each k in omega arith)
+    (cases-eq k i)
 
 -- The payload of a blocking call that no check refuses, served.
 module _ (s : State) (port : ℕ) (f : Raw) (buffer : List ℕ) (none : blockingRefusal s port f (length buffer) ≡ None) (p : Access) (is : p ≡ accessOf f) (r : Outcome) (after : List ℕ) (m′ : AddressMap) (t′ : ℕ) (serves : Serves (s .map) (s .meter) p buffer r after m′ t′) where
@@ -98,11 +98,11 @@ module _ (s : State) (port : ℕ) (f : Raw) (buffer : List ℕ) (none : blocking
   blocked local sum s′ new =
       let meter : s′ .meter ≡ t′ = ap (λ x. x .meter) new in
       let done : Blocked s port (accessOf f) buffer (served local (r .status) after) s′ =
-        record {
-          delay = r .delay;
-          answer = (λ u. served (sum u) (served-as .status u) (served-as .bytes u));
-          after = new ∙ (λ u. record { ports = s .ports; accept = s .accept; quantum = s .quantum; now = s .now; locals = set (s .locals) port (sum u); map = served-as .map-after u; meter = sym meter u });
-          meter-grows-by-the-delay = subst (λ x. When (eqb (beatsServed (accessOf f) (s .map)) 0) (x ≡ s .meter) (x ≡ (s .meter + r .delay) % 2 ^ 64)) (sym meter) (served-as .meter-grows-by-the-delay);
-          only-the-delay-is-free = served-as .only-the-delay-is-free;
-        } in
+      record {
+        delay = r .delay;
+        answer = (λ u. served (sum u) (served-as .status u) (served-as .bytes u));
+        after = new ∙ (λ u. record { ports = s .ports; accept = s .accept; quantum = s .quantum; now = s .now; locals = set (s .locals) port (sum u); map = served-as .map-after u; meter = sym meter u });
+        meter-grows-by-the-delay = subst (λ x. When (eqb (beatsServed (accessOf f) (s .map)) 0) (x ≡ s .meter) (x ≡ (s .meter + r .delay) % 2 ^ 64)) (sym meter) (served-as .meter-grows-by-the-delay);
+        only-the-delay-is-free = served-as .only-the-delay-is-free;
+      } in
       subst (λ o. Unless o s (served local (r .status) after) s′ (Blocked s port (accessOf f) buffer (served local (r .status) after) s′)) (sym none) done

@@ -1,3 +1,4 @@
 mod making;
 mod settings;
+
 pub use settings::Settings;

@@ -5,6 +5,7 @@ ghost use lib.ListN.{length};
 ghost use Rattle.std.specs.Results.{Cases, isErr};
 ghost use Rattle.std.specs.declared.option.Option.the-variants.{Some, None};
 ghost use Rattle.bus.specs.Payload.{raw, access, accessOf};
+ghost use Rattle.bus.specs.declared.kinds.Refusal.the-variants.{UnknownPort};
 ghost use Rattle.protocol.specs.Settings.{asked};
 ghost use Rattle.protocol.specs.Runs.{blocking, sync};
 ghost use Rattle.protocol.specs.Rules.{Answered, fresh, startOf, syncPoint, blockingRefusal};
@@ -32,6 +33,16 @@ impl<T: Target> Platform<T> {
         }
     }
 
+    fn known(&self, port: u64) -> Result<(), Refusal>
+        ensures { λ r. ⌜ Cases r (λ _. port < now (self .entry) .settings .ports) (λ e. (now (self .entry) .settings .ports ≤ port) × (e ≡ UnknownPort)) ⌝ }
+    {
+        if port >= self.settings.ports {
+            Err(Refusal::UnknownPort)
+        } else {
+            Ok(())
+        }
+    }
+
     // When a call of the port takes place.
     fn start_of(&self, port: u64) -> u64
         requires { ⌜ port < 8 ⌝ }
@@ -51,9 +62,7 @@ impl<T: Target> Platform<T> {
     fn admit(&self, port: u64, fields: Fields<'_>, size: usize) -> Result<Payload, Refusal>
         ensures { λ r. ⌜ Cases r (λ p. (blockingRefusal (state (T·Target .map) (T·Target .meter) (now (self .entry))) port (raw (fields .entry)) size ≡ None) × (access p ≡ accessOf (raw (fields .entry)))) (λ e. blockingRefusal (state (T·Target .map) (T·Target .meter) (now (self .entry))) port (raw (fields .entry)) size ≡ Some e) ⌝ }
     {
-        if port >= self.settings.ports {
-            return Err(Refusal::UnknownPort);
-        }
+        self.known(port)?;
         let payload = Payload::new(fields)?;
         if size as u64 != fields.length {
             return Err(Refusal::WrongDataLength);
@@ -69,7 +78,12 @@ impl<T: Target> Platform<T> {
     }
 
     // Serves a payload at once, at the port's start time. A WRITE takes its data from the buffer, a READ fills it.
-    pub fn blocking(&mut self, port: u64, fields: Fields<'_>, buffer: &mut [u8]) -> Result<Blocked, Refusal>
+    pub fn blocking(
+        &mut self,
+        port: u64,
+        fields: Fields<'_>,
+        buffer: &mut [u8],
+    ) -> Result<Blocked, Refusal>
         ensures rule { λ r. ⌜ Answered (state (T·Target .map) (T·Target .meter) (now (self .entry))) (blocking port (raw (fields .entry)) (now (buffer .entry))) (blockingAnswer r (now (buffer .exit))) (state (T·Target .map) (T·Target .meter) (now (self .exit))) ⌝ }
         ensures refused_moves_nothing { λ r. ⌜ (isErr r ≡ true → (now (self .exit) ≡ now (self .entry)) × (now (buffer .exit) ≡ now (buffer .entry))) ⌝ }
     {
@@ -89,9 +103,7 @@ impl<T: Target> Platform<T> {
         ensures rule { λ r. ⌜ Answered (state (T·Target .map) (T·Target .meter) (now (self .entry))) (sync port) (syncAnswer r) (state (T·Target .map) (T·Target .meter) (now (self .exit))) ⌝ }
         ensures refused_moves_nothing { λ r. ⌜ (isErr r ≡ true → now (self .exit) ≡ now (self .entry)) ⌝ }
     {
-        if port >= self.settings.ports {
-            return Err(Refusal::UnknownPort);
-        }
+        self.known(port)?;
         self.now = self.start_of(port);
         Ok(self.now)
     }

@@ -16,7 +16,7 @@ pub loop-k-again : need.loop-k-again
 loop-k-again g c =
     write-more (access (c .args .payload .now)) (c .loop-k .k) (c .beat-from .result .0) (c .beat-from .result .1) (c .marks-marks .result) (omega arith) (omega arith)
     (beat-begins (c .args .payload .now .length) (c .args .payload .now .width) (c .loop-k .k) (omega arith) (omega arith))
-    (c .beat-from .ensures .from) (c .beat-from .ensures .to) (c .marks-marks .ensures)
+    (c .beat-from .ensures .from) (c .beat-from .ensures .to) (c .marks-marks .ensures) (c .beat-span-span .result .start) (c .beat-span-span .result .enabled .now) (c .beat-span-span .ensures .start) (c .beat-span-span .ensures .enabled)
     (g .T·Target .map (c .args .target .now)) (g .T·Target .meter (c .args .target .now)) (c .args .bytes .now)
     (g .T·Target .map (c .loop-k .target)) (g .T·Target .meter (c .loop-k .target)) (c .loop-k .delay) (c .write-delay .result)
     (g .T·Target .map (c .write-delay .last .self)) (g .T·Target .meter (c .write-delay .last .self))
