@@ -3,6 +3,7 @@ ghost use lib.ListN.{getD};
 use protocol::Settings;
 
 // A simulation: ports with local times over an interconnect, which is any target.
+#[derive(Drop)]
 pub struct Platform<T> {
     settings: Settings,
     now: u64,

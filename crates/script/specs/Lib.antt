@@ -1,1 +1,4 @@
 pub mod Faults
+pub mod Fields
+pub mod Forms
+pub mod Records

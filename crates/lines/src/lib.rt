@@ -1,0 +1,5 @@
+mod buffer;
+mod ends;
+
+pub use buffer::LineBuffer;
+pub use ends::first_line_end;

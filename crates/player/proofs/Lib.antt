@@ -1,0 +1,4 @@
+pub mod Buffer
+pub mod Shown
+pub mod Digits
+pub mod Stream

@@ -1,0 +1,6 @@
+mod fields;
+mod response;
+mod text;
+
+pub use response::Response;
+pub use text::Text;

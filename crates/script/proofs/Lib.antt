@@ -1,0 +1,5 @@
+pub mod Bounds
+mod Cuts
+mod Numerals
+mod Openings
+mod Bytes
