@@ -39,14 +39,14 @@ blockingCall port command address len width enables digits = blocking port (reco
 
 -- A READ of status 1 shows its bytes.
 abbrev pub blockingLine : (port command : ℕ) → Answer → Line
-blockingLine port command (refused e) = lines.refused e
-blockingLine port command (served local status buffer) = lines.done port local status (cond (eqb command 0 && isOkay status) (Some buffer) None)
-blockingLine port command (synced time) = lines.sync port time
+blockingLine port command (refused e) = lines.noLine e
+blockingLine port command (served local status buffer) = lines.doneLine port local status (cond (eqb command 0 && isOkay status) (Some buffer) None)
+blockingLine port command (synced time) = lines.syncLine port time
 
 abbrev pub syncLine : (port : ℕ) → Answer → Line
-syncLine port (refused e) = lines.refused e
-syncLine port (served local status buffer) = lines.done port local status (Some buffer)
-syncLine port (synced time) = lines.sync port time
+syncLine port (refused e) = lines.noLine e
+syncLine port (served local status buffer) = lines.doneLine port local status (Some buffer)
+syncLine port (synced time) = lines.syncLine port time
 
 -- A text that shows a line of which P holds.
 abbrev pub Printed : List ℕ → (Line → Type 0) → Type 0
@@ -54,7 +54,7 @@ Printed text P = (l : Line) × (P l × (text ≡ lines.shown l))
 
 -- Settings in range make a new platform, others are refused.
 abbrev pub SettingsAnswered : Asked → (s : State) → Line → (s′ : State) → Type 0
-SettingsAnswered σ s l s′ = Cases (settled σ) (λ σ. (l ≡ lines.set) × (s′ ≡ fresh σ startMap 0)) (λ e. (l ≡ lines.refused e) × (s′ ≡ s))
+SettingsAnswered σ s l s′ = Cases (settled σ) (λ σ. (l ≡ lines.setLine) × (s′ ≡ fresh σ startMap 0)) (λ e. (l ≡ lines.noLine e) × (s′ ≡ s))
 
 -- A call is answered by its rule.
 abbrev pub CallAnswered : Call → (Answer → Line) → (s : State) → Line → (s′ : State) → Type 0
@@ -87,7 +87,7 @@ saidOf (Err e) = Err e
 
 -- A faulty line is answered with its fault and changes nothing.
 abbrev pub ReadAnswered : (number : ℕ) → Result Said PlayerFault → (s : State) → Line → (s′ : State) → Type 0
-ReadAnswered number r s l s′ = Cases r (λ said. SaidAnswered said s l s′) (λ e. (l ≡ lines.bad number e) × (s′ ≡ s))
+ReadAnswered number r s l s′ = Cases r (λ said. SaidAnswered said s l s′) (λ e. (l ≡ lines.badLine number e) × (s′ ≡ s))
 
 -- The answer l to the line of that number in the state s, and the state s′ after it.
 abbrev pub LineAnswered : (number : ℕ) → Held → (s : State) → Line → (s′ : State) → Type 0

@@ -4,7 +4,7 @@ ghost use lib.Dec.{eqb};
 ghost use lib.ListN.{length};
 ghost use Rattle.std.specs.Options.{mapped};
 ghost use Rattle.std.specs.Vec.{made};
-ghost use Rattle.response.specs.Lines.{seen, bad};
+ghost use Rattle.response.specs.Lines.{seen, badLine};
 ghost use Rattle.response.specs.Texts.{text};
 ghost use Rattle.script.specs.Records.{said};
 ghost use Rattle.player.specs.Start.{stateOf};
@@ -95,7 +95,7 @@ fn answer_record(platform: &mut Platform<Interconnect>, record: Record<'_>, out:
 }
 
 fn report(line: u64, fault: PlayerFault) -> Response<'static>
-    ensures { λ r. ⌜ seen r ≡ bad line fault ⌝ }
+    ensures { λ r. ⌜ seen r ≡ badLine line fault ⌝ }
 {
     Response::Bad { line, fault }
 }

@@ -1,7 +1,7 @@
 ghost use mathlib.Core.Path.{_≡_};
 ghost use mathlib.Core.Bool.{cond, not, false};
 ghost use mathlib.Core.List.{List, [], _++_};
-ghost use Prim.Native.Nat.{ℕ, _+_, _-_, _^_, _≤_, min};
+ghost use Prim.Native.Nat.{ℕ, _+_, _-_, _^_, _<_, _≤_, min};
 ghost use lib.ListN.{length, take};
 ghost use Rattle.std.specs.Options.{isSome};
 ghost use Rattle.lines.specs.Buffers.{held};
@@ -54,6 +54,8 @@ impl Player {
     // before, the answers so far are those to the lines of all bytes so far.
     pub fn hear(&mut self, bytes: &[u8], out: &mut Text) -> Taken
         ensures used { λ r. ⌜ r .used ≡ usedOf (now (bytes .entry)) ⌝ }
+        ensures within { λ r. ⌜ r .used ≤ length (now (bytes .entry)) ⌝ }
+        ensures moves { λ r. ⌜ (0 < length (now (bytes .entry)) → 0 < r .used) ⌝ }
         ensures answered { λ r. ⌜ r .answered ≡ isSome (firstEnd (now (bytes .entry))) ⌝ }
         ensures silent { λ r. ⌜ (r .answered ≡ false → now (out .exit) ≡ now (out .entry)) ⌝ }
         ensures heard { λ r. ⌜ ((before said : List ℕ) → HeardBy before said (now (self .entry)) → HeardBy (before ++ take (r .used) (now (bytes .entry))) (said ++ cond (r .answered) (text (now (out .exit))) []) (now (self .exit))) ⌝ }

@@ -12,7 +12,7 @@ use Rattle.bus.specs.Numbers.{statusNumber, refusalNumber}
 use Rattle.bus.specs.declared.kinds.Status.{Status}
 use Rattle.bus.specs.declared.kinds.Status.the-variants.{Okay, AddressError, CommandError, GenericError}
 use Rattle.script.specs.Faults.{fieldOf, causeOf}
-use Rattle.response.specs.Lines.{Line, set, done, sync, refused, bad, shown, dataShown, ShortData, Short, Fitting}
+use Rattle.response.specs.Lines.{Line, setLine, doneLine, syncLine, noLine, badLine, shown, dataShown, ShortData, Short, Fitting}
 use Rattle.response.specs.Texts.{hexDigits}
 
 length-hex : (bytes : List ℕ) → length (hexDigits bytes) ≡ 2 * length bytes
@@ -33,21 +33,21 @@ length-number : (n : ℕ) → n < 2 ^ 64 → length (decimal n) ≤ 20
 length-number n h = length-decimal-le 20 n (omega arith) (omega arith) h
 
 pub short-line : (l : Line) → Fitting l → Short l → length (shown l) ≤ 256
-short-line set f h = omega arith
-short-line (done port local status bytes) f h =
+short-line setLine f h = omega arith
+short-line (doneLine port local status bytes) f h =
     let a = length-number port (f .0) in
     let b = length-number local (f .1) in
     let c = length-status status in
     let d = length-data bytes h in
     simp length-append (omega arith)
-short-line (sync port time) f h =
+short-line (syncLine port time) f h =
     let a = length-number port (f .0) in
     let b = length-number time (f .1) in
     simp length-append (omega arith)
-short-line (refused refusal) f h =
+short-line (noLine refusal) f h =
     let a = length-number (refusalNumber refusal) f in
     simp length-append (omega arith)
-short-line (bad number fault) f h =
+short-line (badLine number fault) f h =
     let a = length-number number (f .0) in
     let b = length-number (fieldOf fault) (f .1) in
     let c = length-number (causeOf fault) (f .2) in

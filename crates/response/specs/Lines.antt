@@ -18,36 +18,36 @@ use Rattle.response.specs.Texts.{hexDigits}
 
 -- A response, with the bytes in place of a reference to them.
 pub data Line : Type 0 where
-  set : Line
-  done : ℕ → ℕ → Status → Option (List ℕ) → Line
-  sync : ℕ → ℕ → Line
-  refused : Refusal → Line
-  bad : ℕ → PlayerFault → Line
+  setLine : Line
+  doneLine : ℕ → ℕ → Status → Option (List ℕ) → Line
+  syncLine : ℕ → ℕ → Line
+  noLine : Refusal → Line
+  badLine : ℕ → PlayerFault → Line
 
 abbrev pub seen : Response → Line
-seen Set = set
-seen (Done port local status bytes) = done port local status (mapped (λ s. s .now) bytes)
-seen (Sync port time) = sync port time
-seen (No refusal) = refused refusal
-seen (Bad number fault) = bad number fault
+seen Set = setLine
+seen (Done port local status bytes) = doneLine port local status (mapped (λ s. s .now) bytes)
+seen (Sync port time) = syncLine port time
+seen (No refusal) = noLine refusal
+seen (Bad number fault) = badLine number fault
 
 abbrev pub dataShown : Option (List ℕ) → List ℕ
 dataShown None = codes "-"
 dataShown (Some bytes) = hexDigits bytes
 
 abbrev pub word : Line → List ℕ
-word set = codes "SET"
-word (done port local status bytes) = codes "DONE"
-word (sync port time) = codes "SYNC"
-word (refused refusal) = codes "NO"
-word (bad number fault) = codes "BAD"
+word setLine = codes "SET"
+word (doneLine port local status bytes) = codes "DONE"
+word (syncLine port time) = codes "SYNC"
+word (noLine refusal) = codes "NO"
+word (badLine number fault) = codes "BAD"
 
 abbrev pub fields : Line → List (List ℕ)
-fields set = []
-fields (done port local status bytes) = decimal port ∷ decimal local ∷ signed (statusNumber status) ∷ dataShown bytes ∷ []
-fields (sync port time) = decimal port ∷ decimal time ∷ []
-fields (refused refusal) = decimal (refusalNumber refusal) ∷ []
-fields (bad number fault) = decimal number ∷ decimal (fieldOf fault) ∷ decimal (causeOf fault) ∷ []
+fields setLine = []
+fields (doneLine port local status bytes) = decimal port ∷ decimal local ∷ signed (statusNumber status) ∷ dataShown bytes ∷ []
+fields (syncLine port time) = decimal port ∷ decimal time ∷ []
+fields (noLine refusal) = decimal (refusalNumber refusal) ∷ []
+fields (badLine number fault) = decimal number ∷ decimal (fieldOf fault) ∷ decimal (causeOf fault) ∷ []
 
 abbrev pub tab : List ℕ
 tab = 9 ∷ []
@@ -76,11 +76,11 @@ parts l = pieces (word l) (fields l)
 
 -- the numbers that the code passes on have at most 64 bits
 abbrev pub Fitting : Line → Type 0
-Fitting set = Unit {0}
-Fitting (done port local status bytes) = (port < 2 ^ 64) × (local < 2 ^ 64)
-Fitting (sync port time) = (port < 2 ^ 64) × (time < 2 ^ 64)
-Fitting (refused refusal) = refusalNumber refusal < 2 ^ 64
-Fitting (bad number fault) = (number < 2 ^ 64) × (fieldOf fault < 2 ^ 64) × (causeOf fault < 2 ^ 64)
+Fitting setLine = Unit {0}
+Fitting (doneLine port local status bytes) = (port < 2 ^ 64) × (local < 2 ^ 64)
+Fitting (syncLine port time) = (port < 2 ^ 64) × (time < 2 ^ 64)
+Fitting (noLine refusal) = refusalNumber refusal < 2 ^ 64
+Fitting (badLine number fault) = (number < 2 ^ 64) × (fieldOf fault < 2 ^ 64) × (causeOf fault < 2 ^ 64)
 
 -- data of at most 64 bytes
 abbrev pub ShortData : Option (List ℕ) → Type 0
@@ -88,8 +88,8 @@ ShortData None = Unit {0}
 ShortData (Some bytes) = length bytes ≤ 64
 
 abbrev pub Short : Line → Type 0
-Short set = Unit {0}
-Short (done port local status bytes) = ShortData bytes
-Short (sync port time) = Unit {0}
-Short (refused refusal) = Unit {0}
-Short (bad number fault) = Unit {0}
+Short setLine = Unit {0}
+Short (doneLine port local status bytes) = ShortData bytes
+Short (syncLine port time) = Unit {0}
+Short (noLine refusal) = Unit {0}
+Short (badLine number fault) = Unit {0}

@@ -28,6 +28,8 @@ returns-in-Some c =
     let grown = c .add .ensures .held ∙ ap (grownBy (held (c .args .self .now .line))) part in
     record {
       used = search needs;
+      within = omega (arith, ends .within);
+      moves = λ h. omega arith;
       answered = search needs;
       silent = λ e. let z : _≡_ {A = ℕ} 0 1 = cc in absurd (omega arith);
       heard = λ before said h.
@@ -41,6 +43,8 @@ pub returns-in-None : need.returns-in-None
 returns-in-None c =
     record {
       used = search needs;
+      within = omega arith;
+      moves = λ h. h;
       answered = search needs;
       silent = λ e. refl;
       heard = λ before said h.
