@@ -9,6 +9,7 @@ pub(crate) type Interconnect = Scratchpad;
 pub(crate) fn interconnect() -> Interconnect
     ensures map { λ r. ⌜ memoryMap (r .bytes) ≡ startMap ⌝ }
     ensures meter { λ r. ⌜ r .meter .spent ≡ 0 ⌝ }
+    ensures latency { λ r. ⌜ r .meter .latency ≡ 5 ⌝ }
 {
     Scratchpad::new(5)
 }

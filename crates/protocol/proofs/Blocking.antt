@@ -51,15 +51,6 @@ admitted s port f size none =
     let d = passed (ltb (2 ^ 40) (startOf s port)) _ _ (c .1) in
     record { known = leb-false (s .ports) port (a .0); made = b .0; whole = eqb-true size (f .length) (not-false (eqb size (f .length)) (c .0)); early = ltb-false (2 ^ 40) (startOf s port) (d .0) }
 
--- A payload has 1 to 64 bytes.
-sized : (f : Raw) → illMade f ≡ None → (1 ≤ f .length) × (f .length ≤ 64)
-sized f none =
-    let a = passed (ltb 2 (f .command)) _ _ none in
-    let b = passed (eqb (f .length) 0 || ltb 64 (f .length)) _ _ (a .1) in
-    let c = or-parts (eqb (f .length) 0) (ltb 64 (f .length)) (b .0) in
-    let most = ltb-false 64 (f .length) (c .1) in
-    ((⊎-elim (λ z. absurd (both-ways (eqb (f .length) 0) (c .0) (eq-eqb (f .length) 0 z))) (λ z. omega arith) (cases-eq (f .length) 0)), most)
-
 if-few : (s : Status) (n : ℕ) → n ≤ 64 → ifOkay s n 0 ≤ 64
 if-few Okay n le = le
 if-few AddressError n le = omega arith
@@ -82,27 +73,28 @@ set-within xs i v most each le k =
     (λ other. let e : getD (set xs i v) k 0 ≡ getD xs k 0 = getD-set-other xs i k v 0 other in let h = each k in omega arith)
     (cases-eq k i)
 
--- The payload of a blocking call that no check refuses, served.
-module _ (s : State) (port : ℕ) (f : Raw) (buffer : List ℕ) (none : blockingRefusal s port f (length buffer) ≡ None) (p : Access) (is : p ≡ accessOf f) (r : Outcome) (after : List ℕ) (m′ : AddressMap) (t′ : ℕ) (serves : Serves (s .map) (s .meter) p buffer r after m′ t′) where
-  served-as : ServedAs (s .map) (s .meter) (accessOf f) buffer r after m′ t′
-  served-as = when-true (ServedAs (s .map) (s .meter) (accessOf f) buffer r after m′ t′) (Unserved (s .map) (s .meter) buffer r after m′ t′) (eq-eqb (length buffer) (f .length) (admitted s port f (length buffer) none .whole)) (subst (λ x. Serves (s .map) (s .meter) x buffer r after m′ t′) is serves)
+-- A payload that is served.
+module _ (s : State) (port : ℕ) (p : Access) (buffer : List ℕ) (long : length buffer ≡ p .length) (r : Outcome) (after : List ℕ) (m′ : AddressMap) (t′ : ℕ) (serves : Serves (s .map) (s .meter) p buffer r after m′ t′) where
+  served-as : ServedAs (s .map) (s .meter) p buffer r after m′ t′
+  served-as = when-true (ServedAs (s .map) (s .meter) p buffer r after m′ t′) (Unserved (s .map) (s .meter) buffer r after m′ t′) (eq-eqb (length buffer) (p .length) long) serves
 
-  pub short-delay : r .delay ≤ 64000000
-  short-delay =
-      let size = sized f (admitted s port f (length buffer) none .made) in
-      let few = few-served (accessOf f) (s .map) (size .0) (size .1) in
-      let a : 1000000 * beatsServed (accessOf f) (s .map) ≤ 1000000 * 64 = mul-le-mul-left 1000000 few in
+  pub short-delay : 1 ≤ p .length → p .length ≤ 64 → r .delay ≤ 64000000
+  short-delay some most =
+      let few = few-served p (s .map) some most in
+      let a : 1000000 * beatsServed p (s .map) ≤ 1000000 * 64 = mul-le-mul-left 1000000 few in
       omega (arith, a, served-as .only-the-delay-is-free)
 
-  pub blocked : (local : ℕ) → local ≡ startOf s port + r .delay → (s′ : State) → s′ ≡ record { ports = s .ports; accept = s .accept; quantum = s .quantum; now = s .now; locals = set (s .locals) port local; map = m′; meter = t′ } → Unless (blockingRefusal s port f (length buffer)) s (served local (r .status) after) s′ (Blocked s port (accessOf f) buffer (served local (r .status) after) s′)
-  blocked local sum s′ new =
+  pub blocked : (local : ℕ) → local ≡ startOf s port + r .delay → (status : Status) → status ≡ r .status → (s′ : State) → s′ ≡ record { ports = s .ports; accept = s .accept; quantum = s .quantum; now = s .now; locals = set (s .locals) port local; map = m′; meter = t′ } → Blocked s port p buffer (served local status after) s′
+  blocked local sum status is s′ new =
       let meter : s′ .meter ≡ t′ = ap (λ x. x .meter) new in
-      let done : Blocked s port (accessOf f) buffer (served local (r .status) after) s′ =
       record {
         delay = r .delay;
-        answer = (λ u. served (sum u) (served-as .status u) (served-as .bytes u));
+        answer = (λ u. served (sum u) ((is ∙ served-as .status) u) (served-as .bytes u));
         after = new ∙ (λ u. record { ports = s .ports; accept = s .accept; quantum = s .quantum; now = s .now; locals = set (s .locals) port (sum u); map = served-as .map-after u; meter = sym meter u });
-        meter-grows-by-the-delay = subst (λ x. When (eqb (beatsServed (accessOf f) (s .map)) 0) (x ≡ s .meter) (x ≡ (s .meter + r .delay) % 2 ^ 64)) (sym meter) (served-as .meter-grows-by-the-delay);
+        meter-grows-by-the-delay = subst (λ x. When (eqb (beatsServed p (s .map)) 0) (x ≡ s .meter) (x ≡ (s .meter + r .delay) % 2 ^ 64)) (sym meter) (served-as .meter-grows-by-the-delay);
         only-the-delay-is-free = served-as .only-the-delay-is-free;
-      } in
-      subst (λ o. Unless o s (served local (r .status) after) s′ (Blocked s port (accessOf f) buffer (served local (r .status) after) s′)) (sym none) done
+      }
+
+-- A call that no check refuses is accepted.
+pub accepted : (s : State) (port : ℕ) (f : Raw) (buffer : List ℕ) → blockingRefusal s port f (length buffer) ≡ None → (p : Access) → p ≡ accessOf f → (a : Answer) (s′ : State) → Blocked s port p buffer a s′ → Unless (blockingRefusal s port f (length buffer)) s a s′ (Blocked s port (accessOf f) buffer a s′)
+accepted s port f buffer none p is a s′ done = subst (λ o. Unless o s a s′ (Blocked s port (accessOf f) buffer a s′)) (sym none) (subst (λ x. Blocked s port x buffer a s′) is done)
