@@ -3,6 +3,7 @@ pub mod Cutting
 pub mod Congruence
 pub mod Stability
 pub mod Distance
+pub mod Laws
 pub mod Marks
 pub mod Parts
 pub mod Beats

@@ -1,6 +1,5 @@
 mod fields;
 mod kinds;
-mod laws;
 mod numbers;
 mod payload;
 mod payloads;
@@ -13,7 +12,6 @@ pub use kinds::Command;
 pub use kinds::Outcome;
 pub use kinds::Refusal;
 pub use kinds::Status;
-pub use laws::laws_hold;
 pub use payload::Payload;
 pub use serving::serve;
 pub use span::Span;

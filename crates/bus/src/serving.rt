@@ -2,6 +2,7 @@ ghost use mathlib.Core.Path.{_≡_};
 ghost use mathlib.Core.Bool.{Bool};
 ghost use Prim.Native.Nat.{ℕ, _+_, _-_, _*_, _/_, _%_, _^_, _≤_, _<_, min};
 ghost use lib.ListN.{length, take, drop};
+ghost use Rattle.bus.specs.Laws.{Laws};
 ghost use Rattle.bus.specs.Map.{judged};
 ghost use Rattle.bus.specs.Payload.{access, judgedAccess, marksFrom, foundFrom, writtenFrom};
 ghost use Rattle.bus.specs.Serve.{Serves};
@@ -87,9 +88,8 @@ fn judge_payload<T: Target>(target: &T, payload: &Payload) -> Status
     target.judge(payload.command, span)
 }
 
-// Serves a payload: it is judged once, and with status 1 its beats move their bytes in ascending
-// order. An IGNORE is only judged.
-pub fn serve<T: Target>(target: &mut T, payload: &Payload, buffer: &mut [u8]) -> Outcome
+// Judges a payload once, and with status 1 moves its bytes beat by beat.
+fn judge_and_move<T: Target>(target: &mut T, payload: &Payload, buffer: &mut [u8]) -> Outcome
     ensures { λ r. ⌜ Serves (map (now (target .entry))) (meter (now (target .entry))) (access (now (payload .entry))) (now (buffer .entry)) r (now (buffer .exit)) (map (now (target .exit))) (meter (now (target .exit))) ⌝ }
 {
     if buffer.len() != payload.length {
@@ -108,4 +108,13 @@ pub fn serve<T: Target>(target: &mut T, payload: &Payload, buffer: &mut [u8]) ->
         Command::Ignore => 0,
     };
     Outcome { status, delay }
+}
+
+// Serves a payload: it is judged once, and with status 1 its beats move their bytes in ascending
+// order. An IGNORE is only judged. What is judged, filled and written obeys the laws.
+pub fn serve<T: Target>(target: &mut T, payload: &Payload, buffer: &mut [u8]) -> Outcome
+    ensures laws { λ _. ⌜ Laws ⌝ }
+    ensures serves { λ r. ⌜ Serves (map (now (target .entry))) (meter (now (target .entry))) (access (now (payload .entry))) (now (buffer .entry)) r (now (buffer .exit)) (map (now (target .exit))) (meter (now (target .exit))) ⌝ }
+{
+    judge_and_move(target, payload, buffer)
 }
