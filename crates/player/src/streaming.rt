@@ -7,7 +7,8 @@ ghost use Rattle.std.specs.Options.{isSome};
 ghost use Rattle.lines.specs.Buffers.{held};
 ghost use Rattle.lines.specs.Lines.{kept, noneHeld, firstEnd};
 ghost use Rattle.response.specs.Texts.{text};
-ghost use Rattle.player.specs.Start.{stateOf};
+ghost use Rattle.protocol.specs.Settings.{asked};
+ghost use Rattle.player.specs.Start.{stateOf, usual};
 ghost use Rattle.player.specs.Answers.{Printed, LineAnswered};
 ghost use Rattle.player.specs.Streams.{HeardBy, Played, linesOf, usedOf};
 use crate::answers::answer_line;
@@ -21,19 +22,25 @@ use platform::Platform;
 use protocol::Settings;
 use response::Text;
 
+// The settings of a script whose first line sets no others.
+fn usual_settings() -> Settings
+    ensures { λ r. ⌜ asked r ≡ usual ⌝ }
+{
+    Settings {
+        ports: 2,
+        accept: 10,
+        quantum: 1_000,
+        start: 0,
+    }
+}
+
 impl Player {
     // A player that has heard nothing.
     pub fn new() -> Player
         ensures { λ r. ⌜ HeardBy [] [] r ⌝ }
     {
-        let settings = Settings {
-            ports: 2,
-            accept: 10,
-            quantum: 1_000,
-            start: 0,
-        };
         Player {
-            platform: Platform::new(settings, interconnect()),
+            platform: Platform::new(usual_settings(), interconnect()),
             line: LineBuffer::new(),
             number: 1,
         }
