@@ -47,6 +47,20 @@ heard-line bytes out part text h number s h′ number′ s′ unended heard prin
       answers = subst (λ ls. Played ls (out ++ text) s′) (sym lines) (played-more (wholeLines bytes) (lastPart bytes ++ part) out text (grownBy h part) number s s′ held (heard .next) (heard .answers) printed);
     }
 
+-- The same, by how many bytes were taken and whether they were answered.
+pub heard-taken : (bytes out slice part text : List ℕ) (h : Held) (number : ℕ) (s : State) (h′ : Held) (number′ : ℕ) (s′ : State) → slice ≡ part → NoEnd part → Heard bytes out h number s → Printed text (λ l. LineAnswered number (grownBy h slice) s l s′) → number′ ≡ min (number + 1) (2 ^ 64 - 1) → h′ ≡ kept [] → (taken : List ℕ) (answered : Bool) → taken ≡ part ++ (10 ∷ []) → answered ≡ true → Heard (bytes ++ taken) (out ++ cond answered text []) h′ number′ s′
+heard-taken bytes out slice part text h number s h′ number′ s′ is unended heard printed next empty taken answered all yes′ =
+    subst (λ b. Heard (bytes ++ b) (out ++ cond answered text []) h′ number′ s′) (sym all)
+    (subst (λ a. Heard (bytes ++ (part ++ (10 ∷ []))) (out ++ cond a text []) h′ number′ s′) (sym yes′)
+    (heard-line bytes out part text h number s h′ number′ s′ unended heard (subst (λ p. Printed text (λ l. LineAnswered number (grownBy h p) s l s′)) is printed) next empty))
+
+pub heard-kept : (bytes out part text : List ℕ) (h : Held) (number : ℕ) (s : State) (h′ : Held) (number′ : ℕ) (s′ : State) → NoEnd part → h′ ≡ grownBy h part → number′ ≡ number → s′ ≡ s → Heard bytes out h number s → (taken : List ℕ) (answered : Bool) → taken ≡ take (length part) part → answered ≡ false → Heard (bytes ++ taken) (out ++ cond answered text []) h′ number′ s′
+heard-kept bytes out part text h number s h′ number′ s′ unended grown same still heard taken answered all no′ =
+    subst (λ b. Heard (bytes ++ b) (out ++ cond answered text []) h′ number′ s′) (sym all)
+    (subst (λ a. Heard (bytes ++ take (length part) part) (out ++ cond a text []) h′ number′ s′) (sym no′)
+    (subst (λ n. Heard (bytes ++ take (length part) part) (out ++ []) h′ n s′) (sym same)
+    (subst (λ x. Heard (bytes ++ take (length part) part) (out ++ []) h′ number x) (sym still) (heard-part bytes out part h number s h′ unended grown heard))))
+
 -- Whether a line is left when the input ends.
 none-held : (xs : List ℕ) → noneHeld (heldOf xs) ≡ eqb (length xs) 0
 none-held [] = refl

@@ -6,6 +6,7 @@ use Prim.Native.Nat.{ℕ, _+_, _-_, _^_, min}
 use lib.Dec.{eqb}
 use lib.ListN.{length}
 use Rattle.protocol.specs.Runs.{State}
+use Rattle.std.specs.declared.option.Option.{Option}
 use Rattle.std.specs.declared.option.Option.the-variants.{Some, None}
 use Rattle.lines.specs.Lines.{Held, heldOf, wholeLines, lastPart, firstEnd}
 use Rattle.lines.specs.Buffers.{held}
@@ -34,8 +35,12 @@ abbrev pub HeardBy : (bytes out : List ℕ) → Player → Type 0
 HeardBy bytes out p = Heard bytes out (held (p .line)) (p .number) (stateOf (p .platform))
 
 -- How many bytes a player takes at once: up to the first LF, or all.
+abbrev pub usedAt : List ℕ → Option ℕ → ℕ
+usedAt bytes None = length bytes
+usedAt bytes (Some i) = i + 1
+
 abbrev pub usedOf : List ℕ → ℕ
-usedOf bytes = elim (firstEnd bytes) [ None ↦ length bytes | Some i ↦ i + 1 ]
+usedOf bytes = usedAt bytes (firstEnd bytes)
 
 -- The lines of a whole input. The last may lack its LF.
 abbrev pub linesOf : List ℕ → List (List ℕ)
