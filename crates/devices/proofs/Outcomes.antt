@@ -1,19 +1,13 @@
--- A call that is refused moves nothing.
+-- An answer with another status than 1, at no delay, moves nothing.
 use mathlib.Core.Path.{_≡_, refl, sym, ap, subst, _∙_}
-use mathlib.Core.List.{List}
-use mathlib.Core.Bool.{Bool}
 use Prim.Native.Nat.{ℕ, _+_, _<_, _%_, _^_}
-use lib.ListN.{length}
 use native.Mathlib.Omega.{arith}
 use native.Mathlib.Nat.{add-zero, mod-eq-of-lt}
-use Rattle.bus.specs.Map.{AddressMap, judged, filled, written}
-use Rattle.bus.specs.Target.{ifOkay, Metered, ReadAs, WrittenAs}
-use Rattle.bus.specs.declared.kinds.Command.the-variants.{Read, Write}
+use Rattle.bus.specs.Target.{ifOkay, Metered}
 use Rattle.bus.specs.declared.kinds.Status.{Status}
 use Rattle.bus.specs.declared.kinds.Status.the-variants.{Okay, AddressError, CommandError, GenericError}
 use Rattle.bus.specs.declared.kinds.Outcome.{Outcome}
-use Rattle.devices.specs.Delay.{Charged}
-use Rattle.devices.specs.Steps.{statusSized}
+use Rattle.devices.specs.Outcomes.{MovesNothing}
 
 not-okay : {A : Type 0} (s : Status) (x y : A) → (s ≡ Okay → ⊥) → y ≡ ifOkay s x y
 not-okay Okay x y n = absurd (n refl)
@@ -33,15 +27,12 @@ costs-nothing t GenericError n = (refl, refl)
 unmetered : (t most : ℕ) (s : Status) → (s ≡ Okay → ⊥) → t < 2 ^ 64 → Metered t t most (record { status = s; delay = 0 })
 unmetered t most s n l = record { meter-grows-by-the-delay = unspent t l; only-the-delay-is-free = omega arith; refused-costs-nothing = costs-nothing t s n }
 
-pub read-refused : (m : AddressMap) (t a : ℕ) (es : List Bool) (before : List ℕ) (j s : Status) → j ≡ judged m Read a es → s ≡ statusSized (length before) es j → (s ≡ Okay → ⊥) → t < 2 ^ 64 → (r : Outcome) → r ≡ record { status = s; delay = 0 } → ReadAs m t a es before r before m t
-read-refused m t a es before j s judgement size n l r e =
-    subst (λ (x : Outcome). ReadAs m t a es before x before m t) (sym e)
-    (record { status = size ∙ ap (statusSized (length before) es) judgement; bytes = not-okay s (filled m a es before) before n; map-stays = refl; metered = unmetered t 1000000 s n l })
-
-pub write-refused : (m : AddressMap) (t a : ℕ) (es : List Bool) (bytes : List ℕ) (j s : Status) → j ≡ judged m Write a es → s ≡ statusSized (length bytes) es j → (s ≡ Okay → ⊥) → t < 2 ^ 64 → (r : Outcome) → r ≡ record { status = s; delay = 0 } → WrittenAs m t a es bytes r m t
-write-refused m t a es bytes j s judgement size n l r e =
-    subst (λ (x : Outcome). WrittenAs m t a es bytes x m t) (sym e)
-    (record { status = size ∙ ap (statusSized (length bytes) es) judgement; map-after = not-okay s (written a es bytes m) m n; metered = unmetered t 1000000 s n l })
-
-pub refused-charged : (latency : ℕ) (s : Status) → (s ≡ Okay → ⊥) → (r : Outcome) → r ≡ record { status = s; delay = 0 } → Charged latency latency r
-refused-charged latency s n r e = subst (λ (x : Outcome). Charged latency latency x) (sym e) (record { delay = not-okay s latency 0 n; latency-stays = refl })
+pub moves-nothing : (s : Status) → (s ≡ Okay → ⊥) → (r : Outcome) → r ≡ record { status = s; delay = 0 } → MovesNothing s r
+moves-nothing s n r e =
+    record {
+      outcome = e;
+      bytes-stay = (λ x y. not-okay s x y n ∙ ap (λ (o : Outcome). ifOkay (o .status) x y) (sym e));
+      map-stays = (λ x y. not-okay s x y n ∙ ap (λ (o : Outcome). ifOkay (o .status) x y) (sym e));
+      meter-stays = (λ t l. subst (λ (o : Outcome). Metered t t 1000000 o) (sym e) (unmetered t 1000000 s n l));
+      costs-nothing = (λ latency. subst (λ (o : Outcome). o .delay ≡ ifOkay (o .status) latency 0) (sym e) (not-okay s latency 0 n));
+    }

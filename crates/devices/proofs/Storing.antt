@@ -5,7 +5,7 @@ use mathlib.Core.Bool.{Bool, true, false, cond}
 use mathlib.Core.Logic.{⊎-elim}
 use Prim.Native.Nat.{ℕ, _+_, _≤_, _<_}
 use native.Mathlib.Omega.{arith}
-use native.Mathlib.Nat.{add-assoc, add-zero}
+use native.Mathlib.Nat.{add-assoc}
 use lib.ListN.{length, getD, set, drop}
 use lib.Dec.{eqb, ltb}
 use Rattle.std.specs.declared.option.Option.the-variants.{Some, None}
@@ -13,14 +13,13 @@ use Rattle.std.proofs.shelf.Lists.{drop-more, drop-all, getD-set-same, getD-set
 use Rattle.std.proofs.shelf.Tests.{cond-true, cond-false, eq-eqb, ne-eqb, cases-eq}
 use Rattle.bus.specs.Map.{AddressMap, Cell, written, merged, put, stored, storedIn}
 use Rattle.devices.specs.Contents.{listMap, memoryMap, memoryCell}
+use Rattle.devices.specs.Rows.{rowsMap, rowCell, rowAfter, noRow}
+use Rattle.devices.specs.declared.row.Row.{Row}
 use Rattle.devices.proofs.Bounds.{here}
 
 -- What is left to write gives the map.
 abbrev pub WrittenTo : ℕ → List Bool → List ℕ → (m m′ : AddressMap) → ℕ → Type 0
 WrittenTo a es vs m m′ i = written (a + i) (drop i es) (drop i vs) m′ ≡ written a es vs m
-
-pub none-written : (a : ℕ) (es : List Bool) (vs : List ℕ) (m : AddressMap) → WrittenTo a es vs m m 0
-none-written a es vs m = ap (λ x. written x es vs m) (add-zero a)
 
 written-first : (a : ℕ) (e : Bool) (es : List Bool) (v : ℕ) (vs : List ℕ) (m : AddressMap) → written a (e ∷ es) (v ∷ vs) m ≡ written (a + 1) es vs (cond e (put a v m) m)
 unfolding written
@@ -63,3 +62,6 @@ set-chosen d cell xs k v false y z l new e = ap (λ x. listMap d cell (set xs k 
 
 pub byte-chosen : (bytes : List ℕ) (k v : ℕ) (e : Bool) (y z : ℕ) → k < length bytes → y ≡ merged (getD bytes k 0) 255 v → z ≡ cond e y (getD bytes k 0) → memoryMap (set bytes k z) ≡ cond e (put k v (memoryMap bytes)) (memoryMap bytes)
 byte-chosen bytes k v e y z l new chosen = set-chosen 0 memoryCell bytes k v e y z l (ap memoryCell new) chosen
+
+pub row-chosen : (rows : List Row) (k v : ℕ) (e : Bool) (z : Row) → k < length rows → z ≡ rowAfter (getD rows k noRow) e v → rowsMap (set rows k z) ≡ cond e (put k v (rowsMap rows)) (rowsMap rows)
+row-chosen rows k v e z l after = set-chosen noRow rowCell rows k v e (rowAfter (getD rows k noRow) true v) z l refl after

@@ -1,3 +1,5 @@
 pub mod Delay
+pub mod Outcomes
 pub mod Contents
 pub mod Steps
+pub mod Rows

@@ -1,28 +1,15 @@
 ghost use mathlib.Core.Path.{_≡_};
 ghost use Prim.Native.Nat.{_+_, _≤_};
 ghost use lib.ListN.{length};
-ghost use Rattle.bus.specs.Map.{judged, merged, filled, written};
+ghost use Rattle.bus.specs.Map.{judged, filled, written};
 ghost use Rattle.bus.specs.declared.kinds.Command.{Command};
 ghost use Rattle.bus.specs.declared.kinds.Status.the-variants.{Okay};
 ghost use Rattle.devices.specs.Contents.{memoryMap};
-ghost use Rattle.devices.specs.Steps.{chosen};
+use crate::place::choose;
+use crate::place::merge;
 use crate::reach::lies_below;
 use bus::Span;
 use bus::Status;
-
-// The bits of v under the mask m in the place of those of b.
-pub(crate) fn merge(b: u8, m: u8, v: u8) -> u8
-    ensures { λ r. ⌜ r ≡ merged b m v ⌝ }
-{
-    (b & !m) | (v & m)
-}
-
-// A disabled place keeps what it holds.
-pub(crate) fn choose(enabled: bool, new: u8, old: u8) -> u8
-    ensures { λ r. ⌜ r ≡ chosen enabled new old ⌝ }
-{
-    if enabled { new } else { old }
-}
 
 // How memory of these bytes judges the span. It gives every right, so the command does not matter.
 pub(crate) fn judge(bytes: &[u8], span: Span<'_>) -> Status

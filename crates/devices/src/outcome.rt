@@ -1,6 +1,7 @@
 ghost use mathlib.Core.Path.{_≡_};
 ghost use Rattle.bus.specs.declared.kinds.Status.the-variants.{Okay};
 ghost use Rattle.devices.specs.Delay.{grown};
+ghost use Rattle.devices.specs.Outcomes.{MovesNothing};
 use crate::meter::Meter;
 use bus::Outcome;
 use bus::Status;
@@ -17,9 +18,16 @@ pub(crate) fn served(meter: &mut Meter) -> Outcome
     }
 }
 
-// What a call answers that moves nothing.
-pub(crate) fn refused(status: Status) -> Outcome
+fn without_delay(status: Status) -> Outcome
     ensures { λ r. ⌜ r ≡ record { status = status; delay = 0 } ⌝ }
 {
     Outcome { status, delay: 0 }
+}
+
+// What a call answers that moves nothing.
+pub(crate) fn refused(status: Status) -> Outcome
+    requires { ⌜ (status ≡ Okay → ⊥) ⌝ }
+    ensures { λ r. ⌜ MovesNothing status r ⌝ }
+{
+    without_delay(status)
 }

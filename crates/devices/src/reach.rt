@@ -1,7 +1,7 @@
 ghost use mathlib.Core.Path.{_≡_};
 ghost use lib.ListN.{length};
 ghost use Rattle.bus.specs.declared.kinds.Status.the-variants.{Okay};
-ghost use Rattle.devices.specs.Steps.{reaches, statusSized};
+ghost use Rattle.devices.specs.Steps.{reaches, rightStatus, statusSized};
 use bus::Span;
 use bus::Status;
 
@@ -10,6 +10,17 @@ pub(crate) fn lies_below(span: Span<'_>, size: usize) -> bool
     ensures { λ r. ⌜ r ≡ reaches (span .entry .start) (now (span .entry .enabled)) size ⌝ }
 {
     span.start as usize + span.enabled.len() <= size
+}
+
+// The status of bytes that are all present, by whether the command may touch them.
+pub(crate) fn right(allowed: bool) -> Status
+    ensures { λ r. ⌜ r ≡ rightStatus allowed ⌝ }
+{
+    if allowed {
+        Status::Okay
+    } else {
+        Status::CommandError
+    }
 }
 
 // A buffer or data that is not of the span's length gets the generic error, however the span is judged.

@@ -1,11 +1,12 @@
 ghost use mathlib.Core.Path.{_≡_};
-ghost use lib.ListN.{length, replicate};
 ghost use Prim.Native.Nat.{_+_, _≤_};
-ghost use Rattle.bus.specs.declared.kinds.Status.the-variants.{Okay};
+ghost use lib.ListN.{length, replicate};
 ghost use Rattle.bus.specs.Map.{judged};
 ghost use Rattle.bus.specs.Target.{ReadAs, WrittenAs};
+ghost use Rattle.bus.specs.declared.kinds.Status.the-variants.{Okay};
 ghost use Rattle.devices.specs.Contents.{memoryMap};
-ghost use Rattle.devices.specs.Delay.{Charged, limited};
+ghost use Rattle.devices.specs.Delay.{limited};
+ghost use Rattle.devices.specs.Outcomes.{Charged};
 use crate::bytes;
 use crate::meter::Meter;
 use crate::outcome::refused;

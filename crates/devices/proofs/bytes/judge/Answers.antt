@@ -1,18 +1,20 @@
 use mathlib.Core.Path.{sym}
-use mathlib.Core.Bool.{true}
 use borrow.Author.Needs.{needs}
 use native.Mathlib.Omega.{arith}
 use Rattle.devices.specs.Contents.{memoryCell}
-use Rattle.devices.proofs.Judging.{judged-past, judged-within, memory-allowed}
+use Rattle.devices.proofs.Judging.{judged-past, memory-judged}
 use Rattle.devices.proofs.bytes.judge.Needs as need
 
 pub returns-then-lies-below : need.returns-then-lies-below
 returns-then-lies-below c =
-    let bytes = c .args .bytes .now in
-    let a = c .args .span .start in
-    let es = c .args .span .enabled .now in
-    record { answer = (λ command. judged-within 0 memoryCell bytes command a es (omega arith) (sym (c .if-lies-below .ensures tt)) true (memory-allowed bytes command a es)); within = (λ e. search needs) }
+    record {
+      answer = (λ command. memory-judged (c .args .bytes .now) command (c .args .span .start) (c .args .span .enabled .now) (omega arith) (sym (c .if-lies-below .ensures tt)));
+      within = (λ e. search needs);
+    }
 
 pub returns-else-lies-below : need.returns-else-lies-below
 returns-else-lies-below c =
-    record { answer = (λ command. judged-past 0 memoryCell (c .args .bytes .now) command (c .args .span .start) (c .args .span .enabled .now) (omega arith) (sym (c .if-lies-below .ensures tt))); within = (λ e. search needs) }
+    record {
+      answer = (λ command. judged-past 0 memoryCell (c .args .bytes .now) command (c .args .span .start) (c .args .span .enabled .now) (omega arith) (sym (c .if-lies-below .ensures tt)));
+      within = (λ e. search needs);
+    }

@@ -1,0 +1,16 @@
+use mathlib.Core.Path.{_≡_}
+use Prim.Native.Nat.{_-_}
+use lib.ListN.{length}
+use Rattle.bus.specs.Map.{filled}
+use Rattle.bus.proofs.Parts.{Partly}
+use Rattle.layers.proofs.Sofar.{Counted}
+use Rattle.layers.proofs.pieces.read_pieces.Given as given
+
+abbrev pub Inv-loop-at : given.InvT-loop-at
+Inv-loop-at g l =
+    Counted (l .width) (l .span .start) (length (l .span .enabled .now)) (l .at) (l .count)
+    × Partly (filled (g .T·Target .map (l .entry .lower)) (l .span .start) (l .span .enabled .now) (l .entry .buffer)) (l .entry .buffer) (l .buffer) (l .at)
+    × (g .T·Target .map (l .lower) ≡ g .T·Target .map (l .entry .lower))
+
+abbrev pub μ-loop-at : given.MeasureT-loop-at
+μ-loop-at g l = length (l .span .enabled .now) - l .at

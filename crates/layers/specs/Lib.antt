@@ -1,0 +1,5 @@
+pub mod Delay
+pub mod Cut
+pub mod Steps
+pub mod Route
+pub mod Lines
