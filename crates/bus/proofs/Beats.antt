@@ -1,28 +1,17 @@
 -- The beats of a payload do, one after another, what it does byte by byte.
-use mathlib.Core.Path.{_≡_, refl, sym, ap, subst, _∙_}
+use mathlib.Core.Path.{_≡_, refl, sym, ap, _∙_}
 use mathlib.Core.List.{List, [], _∷_, _++_}
 use mathlib.Core.Bool.{Bool, true, false, cond}
-use Prim.Native.Nat.{ℕ, zero, suc, _+_, _-_, _*_, _/_, _%_, _^_, _<_, _≤_, min}
+use Prim.Native.Nat.{ℕ, zero, suc, _+_, _-_, _*_, _/_, _%_, _^_, _<_, _≤_}
 use native.Mathlib.Nat.{div-mul-le-self, lt-div-mul-add, mul-le-mul-right, add-mul, one-mul, add-assoc, mod-add-mod, div-le-self}
 use native.Mathlib.Omega.{arith}
-use lib.Dec.{eqb}
 use lib.ListN.{length, take, drop}
-use borrow.Rule.Slice.PartMut.{putMid}
 use Rattle.std.specs.declared.option.Option.{Option}
 use Rattle.std.proofs.shelf.Bits.{mod-mul-add}
-use Rattle.std.proofs.shelf.Lists.{length-take-le, length-drop}
-use Rattle.std.proofs.shelf.Tests.{cond-true, eq-eqb}
 use Rattle.bus.specs.Map.{AddressMap, Cell, everyFrom, judged, present, allowed, filled, written, put, valueAt}
-use Rattle.bus.specs.Target.{ifOkay, statusOver, Metered, ReadAs, WrittenAs}
 use Rattle.bus.specs.Payload.{Access, enabledAt, marksFrom, addressOf, foundFrom, writtenFrom}
 use Rattle.bus.specs.declared.kinds.Command.{Command}
-use Rattle.bus.specs.declared.kinds.Command.the-variants.{Read, Write}
-use Rattle.bus.specs.declared.kinds.Status.{Status}
-use Rattle.bus.specs.declared.kinds.Status.the-variants.{Okay, AddressError, CommandError, GenericError}
-use Rattle.bus.specs.declared.kinds.Outcome.{Outcome}
-use Rattle.bus.proofs.Marks.{length-marks}
-use Rattle.bus.proofs.Parts.{Partly, take-both, partly-rest, partly-more, partly-all}
-use Rattle.bus.proofs.Stability.{judged-written}
+use Rattle.bus.specs.declared.kinds.Status.the-variants.{Okay, AddressError, CommandError}
 
 -- Parts of a payload's bytes and marks.
 pub length-found : (i : ℕ) (p : Access) (m : AddressMap) (bs : List ℕ) → length (foundFrom i p m bs) ≡ length bs

@@ -2,17 +2,16 @@
 use mathlib.Core.Path.{_≡_, refl, sym, ap, _∙_}
 use mathlib.Core.List.{List, [], _∷_}
 use mathlib.Core.Bool.{Bool, true, false, cond}
-use Prim.Native.Nat.{ℕ, suc, _+_, _<_}
+use Prim.Native.Nat.{ℕ, suc, _+_}
 use native.Mathlib.Omega.{arith}
 use lib.Dec.{eqb}
 use lib.ListN.{length}
 use Rattle.std.specs.declared.option.Option.{Option}
-use Rattle.std.proofs.shelf.Tests.{cond-true, cond-false, eq-eqb, ne-eqb, cases-eq}
+use Rattle.std.proofs.shelf.Tests.{eq-eqb, ne-eqb, cases-eq}
 use mathlib.Core.Logic.{⊎-elim}
 use Rattle.bus.specs.Map.{AddressMap, Cell, everyFrom, judged, present, allowed, filled, written, put, valueAt, storedIn}
 use Rattle.bus.specs.Laws.{Agree, Congruence}
 use Rattle.bus.specs.declared.kinds.Command.{Command}
-use Rattle.bus.specs.declared.kinds.Status.{Status}
 use Rattle.bus.specs.declared.kinds.Status.the-variants.{Okay, AddressError, CommandError}
 
 -- The first address of a span, and the others.

@@ -1,18 +1,16 @@
 -- A span cut in two is judged, filled and written as its parts are.
-use mathlib.Core.Path.{_≡_, refl, sym, ap, _∙_}
+use mathlib.Core.Path.{_≡_, refl, ap, _∙_}
 use mathlib.Core.List.{List, [], _∷_, _++_}
 use mathlib.Core.Bool.{Bool, true, false, cond}
-use Prim.Native.Nat.{ℕ, suc, _+_}
+use Prim.Native.Nat.{ℕ, _+_}
 use native.Mathlib.Omega.{arith}
-use native.Mathlib.Nat.{add-zero}
 use lib.ListN.{length}
 use Rattle.std.specs.declared.option.Option.{Option}
 use Rattle.bus.specs.Map.{AddressMap, Cell, everyFrom, judged, present, allowed, filled, written, put, valueAt}
 use Rattle.bus.specs.Numbers.{worse}
 use Rattle.bus.specs.Laws.{Cutting}
 use Rattle.bus.specs.declared.kinds.Command.{Command}
-use Rattle.bus.specs.declared.kinds.Status.{Status}
-use Rattle.bus.specs.declared.kinds.Status.the-variants.{Okay, AddressError, CommandError, GenericError}
+use Rattle.bus.specs.declared.kinds.Status.the-variants.{Okay, AddressError, CommandError}
 
 pub every-append : (p : Option Cell → Bool) (m : AddressMap) (a : ℕ) (es fs : List Bool) → everyFrom p m a (es ++ fs) ≡ cond (everyFrom p m a es) (everyFrom p m (a + length es) fs) false
 unfolding everyFrom

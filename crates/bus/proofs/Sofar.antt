@@ -1,25 +1,24 @@
 -- What the loops over the beats keep: what is served so far, and what one beat more adds.
 use mathlib.Core.Path.{_≡_, refl, sym, ap, subst, _∙_}
-use mathlib.Core.List.{List, [], _∷_, _++_}
-use mathlib.Core.Bool.{Bool, true, false, cond}
+use mathlib.Core.List.{List, _++_}
+use mathlib.Core.Bool.{Bool}
 use Prim.Native.Nat.{ℕ, _+_, _-_, _*_, _/_, _%_, _^_, _<_, _≤_, min}
-use native.Mathlib.Nat.{add-zero, add-mul, one-mul, mul-add, zero-mul, mul-zero}
+use native.Mathlib.Nat.{add-mul, one-mul, mul-add, zero-mul, mul-zero}
 use native.Mathlib.Omega.{arith}
 use lib.Dec.{eqb}
 use lib.ListN.{length, take, drop}
 use borrow.Rule.Slice.PartMut.{putMid}
 use Rattle.std.proofs.shelf.Lists.{length-take-le, length-drop, take-all}
-use Rattle.std.proofs.shelf.Tests.{cond-true, cond-false, eq-eqb, ne-eqb, cases-eq}
+use Rattle.std.proofs.shelf.Tests.{cond-true, eq-eqb, ne-eqb, cases-eq}
 use mathlib.Core.Logic.{⊎-elim}
 use Rattle.std.specs.Orderings.{When}
 use Rattle.std.proofs.shelf.Ways.{when-true, when-false}
 use Rattle.bus.specs.Map.{AddressMap, judged, filled, written}
-use Rattle.bus.specs.Target.{ifOkay, statusOver, Metered, ReadAs, WrittenAs}
+use Rattle.bus.specs.Target.{ifOkay, statusOver, ReadAs, WrittenAs}
 use Rattle.bus.specs.Payload.{Access, marksFrom, foundFrom, writtenFrom}
 use Rattle.bus.specs.declared.kinds.Command.{Command}
 use Rattle.bus.specs.declared.kinds.Command.the-variants.{Read, Write}
-use Rattle.bus.specs.declared.kinds.Status.{Status}
-use Rattle.bus.specs.declared.kinds.Status.the-variants.{Okay, AddressError, CommandError, GenericError}
+use Rattle.bus.specs.declared.kinds.Status.the-variants.{Okay, GenericError}
 use Rattle.bus.specs.declared.kinds.Outcome.{Outcome}
 use Rattle.bus.proofs.Marks.{length-marks}
 use Rattle.bus.proofs.Parts.{Partly, take-both, partly-rest, partly-more, partly-all}

@@ -10,7 +10,6 @@ use Rattle.bus.specs.Map.{AddressMap, Cell, everyFrom, judged, present, allowe
 use Rattle.bus.specs.Laws.{Shape, shape, Stability}
 use Rattle.bus.specs.declared.kinds.Command.{Command}
 use Rattle.bus.specs.declared.kinds.Command.the-variants.{Read, Write, Ignore}
-use Rattle.bus.specs.declared.kinds.Status.{Status}
 use Rattle.bus.specs.declared.kinds.Status.the-variants.{Okay, AddressError, CommandError}
 
 stored-shape : (v : ℕ) (o : Option Cell) → shape (storedIn v o) ≡ shape o

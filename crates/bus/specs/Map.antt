@@ -9,7 +9,7 @@ use Rattle.std.specs.declared.option.Option.the-variants.{Some, None}
 use Rattle.bus.specs.declared.kinds.Command.{Command}
 use Rattle.bus.specs.declared.kinds.Command.the-variants.{Read, Write, Ignore}
 use Rattle.bus.specs.declared.kinds.Status.{Status}
-use Rattle.bus.specs.declared.kinds.Status.the-variants.{Okay, AddressError, CommandError, GenericError}
+use Rattle.bus.specs.declared.kinds.Status.the-variants.{Okay, AddressError, CommandError}
 
 -- A byte that is present: its rights, its value and the mask of its writable bits.
 pub record Cell : Type 0 where

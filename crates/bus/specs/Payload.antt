@@ -1,8 +1,8 @@
 -- What a payload asks, and what serving it does to an address map and a buffer, byte by byte.
-use mathlib.Core.Bool.{Bool, true, false, cond, not, _&&_, _||_}
+use mathlib.Core.Bool.{Bool, true, cond, not, _&&_, _||_}
 use mathlib.Core.List.{List, [], _∷_}
-use Prim.Native.Nat.{ℕ, zero, suc, _+_, _-_, _*_, _/_, _%_, _^_, min}
-use lib.Dec.{eqb, ltb, leb}
+use Prim.Native.Nat.{ℕ, zero, suc, _+_, _-_, _/_, _%_, min}
+use lib.Dec.{eqb, ltb}
 use lib.ListN.{length, getD, take}
 use denote.Ref.{now}
 use Rattle.std.specs.declared.option.Option.{Option}
@@ -14,7 +14,6 @@ use Rattle.bus.specs.declared.payload.Payload.{Payload}
 use Rattle.bus.specs.declared.kinds.Command.{Command}
 use Rattle.bus.specs.declared.kinds.Command.the-variants.{Read, Write, Ignore}
 use Rattle.bus.specs.declared.kinds.Status.{Status}
-use Rattle.bus.specs.declared.kinds.Status.the-variants.{Okay, AddressError, CommandError, GenericError}
 use Rattle.bus.specs.declared.kinds.Refusal.{Refusal}
 use Rattle.bus.specs.declared.kinds.Refusal.the-variants.{BadCommand, BadLength, BadWidth, BadEnables}
 

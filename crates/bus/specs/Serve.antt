@@ -7,7 +7,6 @@ use lib.Dec.{eqb}
 use lib.ListN.{length}
 use Rattle.bus.specs.Map.{AddressMap}
 use Rattle.bus.specs.Payload.{Access, judgedAccess, bufferServed, mapServed, beatsServed}
-use Rattle.bus.specs.declared.kinds.Status.{Status}
 use Rattle.bus.specs.declared.kinds.Status.the-variants.{GenericError}
 use Rattle.bus.specs.declared.kinds.Outcome.{Outcome}
 

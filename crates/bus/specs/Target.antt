@@ -7,7 +7,7 @@ use lib.Dec.{eqb}
 use lib.ListN.{length}
 use Rattle.bus.specs.Map.{AddressMap, judged, filled, written}
 use Rattle.bus.specs.declared.kinds.Command.{Command}
-use Rattle.bus.specs.declared.kinds.Command.the-variants.{Read, Write, Ignore}
+use Rattle.bus.specs.declared.kinds.Command.the-variants.{Read, Write}
 use Rattle.bus.specs.declared.kinds.Status.{Status}
 use Rattle.bus.specs.declared.kinds.Status.the-variants.{Okay, AddressError, CommandError, GenericError}
 use Rattle.bus.specs.declared.kinds.Outcome.{Outcome}

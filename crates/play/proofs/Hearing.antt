@@ -1,10 +1,9 @@
 -- Hearing bytes part by part.
 use mathlib.Core.Path.{_≡_, refl, sym, ap, subst, _∙_}
 use mathlib.Core.List.{List, [], _++_, append-assoc, append-nil}
-use Prim.Native.Nat.{ℕ, _+_, _-_, _≤_}
-use native.Mathlib.Omega.{arith}
+use Prim.Native.Nat.{ℕ, _+_, _-_}
 use lib.ListN.{length, take, drop, take-append-drop}
-use Rattle.std.proofs.shelf.Lists.{take-rest, append-cancel-right}
+use Rattle.std.proofs.shelf.Lists.{take-rest}
 use Rattle.player.specs.Streams.{HeardBy}
 use Rattle.player.specs.declared.player.Player.{Player}
 use Rattle.play.specs.Heard.{HearsOn}

@@ -1,15 +1,14 @@
 -- The buffer of a blocking call stands in the front of an array.
 use mathlib.Core.Path.{_≡_, refl, sym, ap, _∙_}
-use mathlib.Core.Bool.{Bool, true, false, cond}
+use mathlib.Core.Bool.{cond}
 use mathlib.Core.List.{List, [], _∷_, _++_}
-use mathlib.Core.Logic.{⊎-elim}
-use Prim.Native.Nat.{ℕ, suc, _+_, _≤_, _<_, _*_, min}
+use Prim.Native.Nat.{ℕ, _+_, _≤_, min}
 use native.Mathlib.Omega.{arith}
 use lib.Dec.{eqb}
 use lib.ListN.{length, take, drop, replicate}
-use Rattle.std.proofs.shelf.Lists.{take-at, take-all, take-replicate, nil-from-length}
-use Rattle.std.proofs.shelf.Tests.{cond-true, cond-false, eq-eqb, ne-eqb, cases-eq, eqb-true, eqb-false, cond-both}
-use Rattle.script.specs.Forms.{byteOf, bytesOf}
+use Rattle.std.proofs.shelf.Lists.{take-at, take-replicate, nil-from-length}
+use Rattle.std.proofs.shelf.Tests.{cond-true, cond-false, eqb-true, cond-both}
+use Rattle.script.specs.Forms.{bytesOf}
 use Rattle.player.specs.Answers.{bufferFor, bufferSize}
 
 half : (ds : List ℕ) → length (bytesOf ds) + length (bytesOf ds) ≤ length ds

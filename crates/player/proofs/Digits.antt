@@ -3,7 +3,7 @@ use mathlib.Core.Path.{_≡_}
 use mathlib.Core.Bool.{Bool}
 use mathlib.Core.List.{List}
 use Prim.Native.Nat.{ℕ}
-use Rattle.std.specs.declared.result.Result.the-variants.{Ok, Err}
+use Rattle.std.specs.declared.result.Result.the-variants.{Ok}
 use Rattle.script.specs.Records.{Said, settings, blocking, sync, parsed}
 use Rattle.script.proofs.Bounds.{digits-bounded}
 use Rattle.player.specs.Answers.{ShortDigits}

@@ -2,8 +2,7 @@
 use mathlib.Core.Path.{_≡_, refl, sym, ap, subst, _∙_}
 use mathlib.Core.Bool.{Bool, true, false, cond}
 use mathlib.Core.List.{List, [], _∷_, _++_, append-nil}
-use mathlib.Core.Logic.{⊎-elim}
-use Prim.Native.Nat.{ℕ, suc, _+_, _-_, _^_, _≤_, min}
+use Prim.Native.Nat.{ℕ, _+_, _-_, _^_, min}
 use native.Mathlib.Omega.{arith}
 use lib.Dec.{eqb, leb}
 use lib.ListN.{length, take, length-append}
@@ -13,7 +12,6 @@ use Rattle.lines.specs.Lines.{Held, kept, over, heldOf, grownBy, noneHeld, whol
 use Rattle.lines.specs.Laws.{NoEnd}
 use Rattle.lines.proofs.CutLaws.{laws}
 use Rattle.protocol.specs.Runs.{State}
-use Rattle.response.specs.Lines.{Line, shown}
 use Rattle.player.specs.Answers.{Printed, LineAnswered}
 use Rattle.player.specs.Streams.{numberAfter, Played, more, Heard, linesOf}
 

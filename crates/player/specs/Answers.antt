@@ -1,7 +1,7 @@
 -- The answer to one line of a script.
 use mathlib.Core.Path.{_≡_}
 use mathlib.Core.Bool.{Bool, cond, _&&_}
-use mathlib.Core.List.{List, [], _∷_}
+use mathlib.Core.List.{List, []}
 use Prim.Native.Nat.{ℕ, _≤_, min}
 use lib.Dec.{eqb}
 use lib.ListN.{length, replicate}

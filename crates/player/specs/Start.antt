@@ -1,5 +1,4 @@
 -- What a player starts from.
-use Prim.Native.Nat.{ℕ}
 use lib.ListN.{replicate}
 use Rattle.bus.specs.Map.{AddressMap}
 use Rattle.devices.specs.Contents.{memoryMap}

@@ -1,33 +1,31 @@
 -- What follows where no check of a blocking call fails.
 use mathlib.Core.Path.{_≡_, refl, sym, ap, subst, _∙_}
-use mathlib.Core.Bool.{Bool, true, false, cond, not, _||_}
+use mathlib.Core.Bool.{Bool, true, false, not}
 use mathlib.Core.List.{List}
 use Prim.Native.Nat.{ℕ, _+_, _-_, _*_, _/_, _%_, _^_, _≤_, _<_}
 use native.Mathlib.Omega.{arith}
 use native.Mathlib.Nat.{mul-le-mul-left}
 use lib.Dec.{eqb, ltb, leb}
 use lib.ListN.{length, getD, set}
-use mathlib.Core.Logic.{_≢_, ⊎-elim}
+use mathlib.Core.Logic.{⊎-elim}
 use Rattle.std.specs.Orderings.{When}
 use Rattle.std.specs.declared.option.Option.{Option}
 use Rattle.std.specs.declared.option.Option.the-variants.{Some, None}
-use Rattle.std.proofs.shelf.Tests.{ltb-false, leb-false, eqb-true, not-false, eq-eqb, or-parts, both-ways, cases-eq, cases-lt}
+use Rattle.std.proofs.shelf.Tests.{ltb-false, leb-false, eqb-true, not-false, eq-eqb, cases-eq, cases-lt}
 use Rattle.std.proofs.shelf.Lists.{getD-set-same, getD-set-other, set-past}
 use Rattle.std.proofs.shelf.Ways.{when-true}
 use Rattle.bus.specs.Map.{AddressMap}
-use Rattle.bus.specs.Payload.{Raw, Access, accessOf, illMade, first, judgedAccess, bufferServed, mapServed, beatsServed}
+use Rattle.bus.specs.Payload.{Raw, Access, accessOf, illMade, first, judgedAccess, beatsServed}
 use Rattle.bus.specs.Serve.{ServedAs, Unserved, Serves}
 use Rattle.bus.specs.Target.{ifOkay}
 use Rattle.bus.proofs.Beats.{few-beats}
-use Rattle.bus.specs.declared.kinds.Command.{Command}
 use Rattle.bus.specs.declared.kinds.Command.the-variants.{Read, Write, Ignore}
 use Rattle.bus.specs.declared.kinds.Status.{Status}
 use Rattle.bus.specs.declared.kinds.Status.the-variants.{Okay, AddressError, CommandError, GenericError}
 use Rattle.bus.specs.declared.kinds.Refusal.{Refusal}
-use Rattle.bus.specs.declared.kinds.Refusal.the-variants.{UnknownPort, WrongDataLength, TooLate, PastSyncPoint}
 use Rattle.bus.specs.declared.kinds.Outcome.{Outcome}
 use Rattle.protocol.specs.Runs.{State, Answer, served}
-use Rattle.protocol.specs.Rules.{startOf, syncPoint, orElse, blockingRefusal, Blocked, Unless}
+use Rattle.protocol.specs.Rules.{startOf, orElse, blockingRefusal, Blocked, Unless}
 
 passed : (b : Bool) (r : Refusal) (rest : Option Refusal) → first b r rest ≡ None → (b ≡ false) × (rest ≡ None)
 passed true r rest e = let z : _≡_ {A = ℕ} 0 1 = cc in absurd (omega arith)

@@ -2,7 +2,6 @@
 use Prim.Native.Nat.{ℕ}
 use Rattle.script.specs.declared.faults.PlayerFault.{PlayerFault}
 use Rattle.script.specs.declared.faults.PlayerFault.the-variants.{TooLong, Record}
-use Rattle.script.specs.declared.faults.RecordFault.{RecordFault}
 use Rattle.script.specs.declared.faults.RecordFault.the-variants.{UnknownLetter, Missing, Surplus, Field}
 
 -- Field 0 is the whole line, field 1 the letter.

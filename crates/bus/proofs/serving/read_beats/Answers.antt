@@ -2,7 +2,7 @@ use mathlib.Core.Path.{_≡_, ap, _∙_}
 use native.Mathlib.Omega.{arith}
 use Prim.Native.Nat.{_+_, _-_, _*_, _/_}
 use Rattle.bus.specs.Payload.{access}
-use Rattle.bus.proofs.Beats.{beat-begins, few-beats}
+use Rattle.bus.proofs.Beats.{beat-begins}
 use Rattle.bus.proofs.Sofar.{read-none, read-more, bytes-all, meter-all}
 use Rattle.bus.proofs.serving.read_beats.Needs as need
 

@@ -1,8 +1,8 @@
-use mathlib.Core.Path.{_≡_, ap, _∙_}
+use mathlib.Core.Path.{_≡_, ap}
 use native.Mathlib.Omega.{arith}
 use Prim.Native.Nat.{_+_, _-_, _*_, _/_}
 use Rattle.bus.specs.Payload.{access}
-use Rattle.bus.proofs.Beats.{beat-begins, few-beats}
+use Rattle.bus.proofs.Beats.{beat-begins}
 use Rattle.bus.proofs.Sofar.{write-none, write-more, map-all, meter-all}
 use Rattle.bus.proofs.serving.write_beats.Needs as need
 

@@ -1,6 +1,5 @@
 use mathlib.Core.Path.{_≡_, refl, ap, sym, _∙_}
-use mathlib.Core.Bool.{Bool, true, false, cond}
-use mathlib.Core.List.{_++_, _∷_, []}
+use mathlib.Core.Bool.{true, false}
 use Prim.Native.Nat.{ℕ, _+_, _-_, _<_}
 use native.Mathlib.Omega.{arith}
 use native.Mathlib.Nat.{sub-zero}
@@ -9,7 +8,6 @@ use lib.ListN.{length, take}
 use Rattle.std.proofs.shelf.Lists.{length-take-le}
 use Rattle.lines.proofs.FirstEnds.{end-found, end-missing}
 use Rattle.lines.specs.Buffers.{held}
-use Rattle.lines.specs.Lines.{grownBy}
 use Rattle.response.specs.Texts.{text}
 use Rattle.player.specs.Start.{stateOf}
 use Rattle.player.specs.Streams.{usedAt}
