@@ -1,4 +1,3 @@
-pub mod Statuses
 pub mod Cutting
 pub mod Congruence
 pub mod Stability
