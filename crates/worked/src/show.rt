@@ -29,7 +29,8 @@ fn data_from(first: u8) -> [u8; 64] {
 
 // How many bytes a span can have.
 fn within_span(count: usize) -> usize
-    ensures { λ r. ⌜ (1 ≤ r) × (r ≤ 64) ⌝ }
+    ensures value { λ r. ⌜ r ≡ min (max count 1) 64 ⌝ }
+    ensures range { λ r. ⌜ (1 ≤ r) × (r ≤ 64) ⌝ }
 {
     count.max(1).min(64)
 }
@@ -85,7 +86,7 @@ fn show<T: Target>(rt: &LibcRuntime, target: &mut T, access: Access) -> io::Resu
 }
 
 // Runs a table of accesses on a target, one after another.
-pub fn show_all<T: Target>(
+pub(crate) fn show_all<T: Target>(
     rt: &LibcRuntime,
     name: &str,
     target: &mut T,
