@@ -1,5 +1,5 @@
 -- Two maps side by side: what is judged, filled and written on one side of the border, and over it.
-use mathlib.Core.Path.{_≡_, refl, sym, ap, _∙_}
+use mathlib.Core.Path.{_≡_, sym, ap, _∙_}
 use mathlib.Core.List.{List, _++_}
 use mathlib.Core.Bool.{Bool, cond}
 use mathlib.Core.Logic.{⊎-elim, inl, inr}
@@ -7,10 +7,9 @@ use Prim.Native.Nat.{ℕ, _+_, _-_, _^_, _<_, _≤_}
 use native.Mathlib.Omega.{arith}
 use lib.Dec.{ltb}
 use lib.ListN.{length}
-use Rattle.std.specs.declared.option.Option.{Option}
 use Rattle.std.specs.declared.option.Option.the-variants.{None}
 use Rattle.std.proofs.shelf.Tests.{cond-true, cond-false, lt-ltb, le-ltb, cases-lt}
-use Rattle.bus.specs.Map.{AddressMap, Cell, judged, filled, written}
+use Rattle.bus.specs.Map.{AddressMap, judged, filled, written}
 use Rattle.bus.specs.Laws.{Agree}
 use Rattle.bus.specs.Numbers.{worse}
 use Rattle.bus.specs.declared.kinds.Command.{Command}

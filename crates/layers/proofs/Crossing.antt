@@ -7,7 +7,7 @@ use native.Mathlib.Omega.{arith}
 use native.Mathlib.Nat.{add-zero}
 use lib.ListN.{length, drop}
 use Rattle.std.proofs.shelf.Lists.{length-append, length-drop}
-use borrow.Rule.Slice.PartMut.{putMid, postOf}
+use borrow.Rule.Slice.PartMut.{putMid}
 use Rattle.std.specs.declared.option.Option.the-variants.{None}
 use Rattle.bus.specs.Map.{AddressMap, judged, filled, written}
 use Rattle.bus.specs.Laws.{Agree}

@@ -1,24 +1,23 @@
 -- Lines in their places: what holding a line and taking a piece from it comes to.
 use mathlib.Core.Path.{_≡_, refl, sym, ap, subst, _∙_}
-use mathlib.Core.List.{List, [], _∷_, map}
+use mathlib.Core.List.{List, [], _∷_}
 use mathlib.Core.Bool.{Bool, true, false, cond}
 use mathlib.Core.Logic.{⊎-elim}
 use Prim.Native.Nat.{ℕ, zero, suc, _+_, _*_, _/_, _%_, _<_, _≤_}
 use native.Mathlib.Nat.{mod-lt}
 use native.Mathlib.Omega.{arith}
-use lib.Dec.{eqb}
 use lib.ListN.{length, getD, set, replicate}
-use Rattle.std.specs.declared.option.Option.{Option}
 use Rattle.std.specs.declared.option.Option.the-variants.{Some, None}
 use Rattle.std.proofs.shelf.Lists.{length-map, length-set, map-set, getD-set-same, getD-set-other, getD-replicate, ext-getD}
-use Rattle.std.proofs.shelf.Tests.{cond-true, cond-false, eq-eqb, eqb-true, cases-eq, both-ways}
+use Rattle.std.proofs.shelf.Tests.{cond-true, cond-false, eq-eqb, eqb-true, cases-eq}
 use Rattle.bus.specs.Map.{AddressMap, judged, filled, valueAt}
+use Rattle.bus.specs.Numbers.{isOkay}
 use Rattle.bus.specs.Target.{ifOkay}
 use Rattle.bus.specs.declared.kinds.Command.the-variants.{Read}
 use Rattle.bus.specs.declared.kinds.Status.{Status}
 use Rattle.bus.specs.declared.kinds.Status.the-variants.{Okay, AddressError, CommandError, GenericError}
 use Rattle.bus.proofs.Distance.{distance}
-use Rattle.layers.specs.Lines.{whole, noLine, keptLine, lineOf, lineIn, Sound, heldIn, heldIns, isLine, holds, afterPiece}
+use Rattle.layers.specs.Lines.{whole, noLine, lineOf, lineIn, Sound, heldIn, heldIns, isLine, holds, afterPiece}
 use Rattle.layers.specs.Steps.{chosen}
 use Rattle.layers.specs.declared.line.Line.{Line}
 use Rattle.layers.proofs.FromBusFilling.{filled-at}
@@ -35,11 +34,23 @@ is-in AddressError line found e = let z : _≡_ {A = ℕ} 0 1 = cc in absurd (om
 is-in CommandError line found e = let z : _≡_ {A = ℕ} 0 1 = cc in absurd (omega arith)
 is-in GenericError line found e = let z : _≡_ {A = ℕ} 0 1 = cc in absurd (omega arith)
 
+by-status : (s : Status) (found : Line) → None ≡ ifOkay s (Some found) None → isOkay s ≡ false
+by-status Okay found e = let z : _≡_ {A = ℕ} 0 1 = cc in absurd (omega arith)
+by-status AddressError found e = refl
+by-status CommandError found e = refl
+by-status GenericError found e = refl
+
 not-in : {A : Type 0} (s : Status) (found : Line) (x y : A) → None ≡ ifOkay s (Some found) None → ifOkay s x y ≡ y
 not-in Okay found x y e = let z : _≡_ {A = ℕ} 0 1 = cc in absurd (omega arith)
 not-in AddressError found x y e = refl
 not-in CommandError found x y e = refl
 not-in GenericError found x y e = refl
+
+pub is-readable : (m : AddressMap) (k : ℕ) (line : Line) → Some line ≡ lineIn m k → judged m Read (k * 16) whole ≡ Okay
+is-readable m k line found = is-in (judged m Read (k * 16) whole) line (lineOf m k) found .0
+
+pub not-readable : (m : AddressMap) (k : ℕ) → None ≡ lineIn m k → isOkay (judged m Read (k * 16) whole) ≡ false
+not-readable m k none = by-status (judged m Read (k * 16) whole) (lineOf m k) none
 
 is-held : (k : ℕ) (line : Line) → isLine k (heldIn line) ≡ true → (line .held ≡ true) × (line .number ≡ k)
 is-held k line e =

@@ -1,25 +1,25 @@
 -- Which lines are held while a span is read line by line, and after a write.
 use mathlib.Core.Path.{_≡_, refl, sym, ap, subst, _∙_}
 use mathlib.Core.List.{List, [], _∷_, map}
-use mathlib.Core.Bool.{Bool, true, false, cond, _&&_}
+use mathlib.Core.Bool.{Bool, true, false, cond}
 use mathlib.Core.Logic.{_⊎_, inl, inr, ⊎-elim}
-use Prim.Native.Nat.{ℕ, zero, suc, _+_, _-_, _*_, _/_, _%_, _<_, _≤_}
+use Prim.Native.Nat.{ℕ, suc, _+_, _-_, _*_, _/_, _%_, _<_, _≤_}
 use native.Mathlib.Omega.{arith}
 use lib.Dec.{ltb}
 use lib.ListN.{length, getD, replicate}
 use Rattle.std.specs.declared.option.Option.{Option}
 use Rattle.std.specs.declared.option.Option.the-variants.{Some, None}
 use Rattle.std.proofs.shelf.Lists.{length-map, getD-map}
-use Rattle.std.proofs.shelf.Tests.{cases-lt, cases-bool, cond-true, cond-false, and-cases, ltb-false, both-ways}
-use Rattle.bus.specs.Map.{AddressMap, judged, filled, written}
+use Rattle.std.proofs.shelf.Tests.{cases-lt, and-cases, ltb-false}
+use Rattle.bus.specs.Map.{AddressMap, written}
 use Rattle.bus.specs.Laws.{Agree}
 use Rattle.bus.specs.Target.{ifOkay}
 use Rattle.bus.specs.declared.kinds.Command.the-variants.{Read}
 use Rattle.bus.proofs.Congruence.{congruence}
 use Rattle.bus.proofs.Distance.{distance}
 use Rattle.bus.proofs.Stability.{stability}
-use Rattle.layers.specs.Cut.{cutAt, pieces}
-use Rattle.layers.specs.Lines.{whole, noLine, emptyLine, keptLine, lineOf, lineIn, Sound, heldIn, heldIns, meets, unlessMet, lineUnlessMet, afterPiece, afterPieces, heldAfterRead, heldAfterWrite}
+use Rattle.layers.specs.Cut.{cutAt}
+use Rattle.layers.specs.Lines.{whole, noLine, emptyLine, keptLine, lineIn, Sound, heldIn, heldIns, meets, unlessMet, lineUnlessMet, afterPiece, afterPieces, heldAfterRead, heldAfterWrite}
 use Rattle.layers.specs.declared.line.Line.{Line}
 use Rattle.layers.proofs.Counting.{left, all-left, none-left, one-less, next-block}
 

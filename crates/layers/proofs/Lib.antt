@@ -9,3 +9,4 @@ pub mod Crossing
 pub mod Changing
 pub mod Holding
 pub mod Lasting
+pub mod Accesses

@@ -1,9 +1,8 @@
 -- What a lower target did where it was asked only what it judges 1.
-use mathlib.Core.Path.{_≡_, sym, ap, _∙_}
+use mathlib.Core.Path.{_≡_, ap, _∙_}
 use mathlib.Core.List.{List}
 use mathlib.Core.Bool.{Bool}
 use Prim.Native.Nat.{ℕ}
-use lib.Dec.{eqb}
 use lib.ListN.{length}
 use Rattle.std.proofs.shelf.Tests.{cond-true, eq-eqb}
 use Rattle.bus.specs.Map.{AddressMap, judged, filled, written}

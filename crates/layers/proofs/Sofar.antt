@@ -1,8 +1,8 @@
 -- What the loops over the pieces keep: what is served so far, and what one piece more adds.
-use mathlib.Core.Path.{_≡_, refl, sym, ap, subst, _∙_}
-use mathlib.Core.List.{List, [], _∷_, _++_}
-use mathlib.Core.Bool.{Bool, true, false, cond}
-use Prim.Native.Nat.{ℕ, _+_, _-_, _*_, _/_, _%_, _^_, _<_, _≤_, min}
+use mathlib.Core.Path.{_≡_, sym, ap, subst, _∙_}
+use mathlib.Core.List.{List}
+use mathlib.Core.Bool.{Bool}
+use Prim.Native.Nat.{ℕ, _+_, _-_, _<_, _≤_}
 use native.Mathlib.Omega.{arith}
 use lib.ListN.{length, take, drop}
 use borrow.Rule.Slice.PartMut.{putMid}
@@ -10,9 +10,7 @@ use Rattle.std.proofs.shelf.Lists.{take-all}
 use Rattle.bus.specs.Map.{AddressMap, judged, filled, written}
 use Rattle.bus.specs.Laws.{Agree}
 use Rattle.bus.specs.Target.{ReadAs, WrittenAs}
-use Rattle.bus.specs.declared.kinds.Command.{Command}
 use Rattle.bus.specs.declared.kinds.Command.the-variants.{Read, Write}
-use Rattle.bus.specs.declared.kinds.Status.{Status}
 use Rattle.bus.specs.declared.kinds.Status.the-variants.{Okay}
 use Rattle.bus.specs.declared.kinds.Outcome.{Outcome}
 use Rattle.bus.proofs.Congruence.{congruence}

@@ -3,3 +3,4 @@ pub mod Cut
 pub mod Steps
 pub mod Route
 pub mod Lines
+pub mod Access

@@ -1,7 +1,7 @@
 -- The lines that a cache holds: line k has the 16 addresses from 16 k on, and only place k mod 8 may hold it.
 use mathlib.Core.Path.{_≡_}
 use mathlib.Core.Bool.{Bool, true, false, cond, _&&_}
-use mathlib.Core.List.{List, [], _∷_, map}
+use mathlib.Core.List.{List, [], map}
 use Prim.Native.Nat.{ℕ, zero, suc, _+_, _*_, _/_, _%_, _<_}
 use lib.Dec.{eqb, ltb}
 use lib.ListN.{length, getD, set, replicate}
@@ -10,7 +10,6 @@ use Rattle.std.specs.declared.option.Option.the-variants.{Some, None}
 use Rattle.bus.specs.Map.{AddressMap, judged, filled}
 use Rattle.bus.specs.Target.{ifOkay}
 use Rattle.bus.specs.declared.kinds.Command.the-variants.{Read}
-use Rattle.bus.specs.declared.kinds.Status.the-variants.{Okay}
 use Rattle.layers.specs.Cut.{pieces}
 use Rattle.layers.specs.declared.line.Line.{Line}
 

@@ -1,5 +1,5 @@
 -- Which of two targets has an address: the left one those below the border, the right one those from the border on.
-use mathlib.Core.Bool.{Bool, cond}
+use mathlib.Core.Bool.{cond}
 use mathlib.Core.Path.{_≡_}
 use Prim.Native.Nat.{ℕ, _+_, _-_, _^_, _<_, _≤_}
 use lib.Dec.{ltb, leb}

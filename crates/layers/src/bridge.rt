@@ -1,9 +1,10 @@
 ghost use mathlib.Core.Path.{_≡_};
 ghost use lib.ListN.{length};
-ghost use Prim.Native.Nat.{_≤_};
+ghost use Prim.Native.Nat.{_+_, _≤_};
 ghost use Rattle.bus.specs.Map.{judged};
 ghost use Rattle.bus.specs.Target.{ReadAs, WrittenAs, ifOkay};
-ghost use Rattle.layers.specs.Cut.{pieces, widthOf};
+ghost use Rattle.layers.specs.Access.{Reached, OneRead, OneWrite};
+ghost use Rattle.layers.specs.Cut.{cutAt, pieces, widthOf};
 ghost use Rattle.layers.specs.Delay.{Charged, limited, growth};
 use crate::outcome::refused;
 use crate::outcome::served;
@@ -72,7 +73,7 @@ pub impl<T: Target> Target for Bridge<T> as BridgeTarget {
         ensures answer { λ r. ⌜ ReadAs (T·Target .map (now (self .entry) .lower)) (now (self .entry) .toll .spent) (span .entry .start) (now (span .entry .enabled)) (now (buffer .entry)) r (now (buffer .exit)) (T·Target .map (now (self .exit) .lower)) (now (self .exit) .toll .spent) ⌝ }
         ensures charge { λ r. ⌜ Charged (now (self .entry) .toll .charge) (now (self .exit) .toll .charge) (pieces (now (self .entry) .width) (span .entry .start) (length (now (span .entry .enabled)))) (growth (T·Target .meter (now (self .entry) .lower)) (T·Target .meter (now (self .exit) .lower))) r ⌝ }
         ensures width { λ _. ⌜ now (self .exit) .width ≡ now (self .entry) .width ⌝ }
-        ensures below { λ r. ⌜ ifOkay (r .status) (Unit {0}) (now (self .exit) .lower ≡ now (self .entry) .lower) ⌝ }
+        ensures below { λ r. ⌜ ifOkay (r .status) (Reached (λ i j. OneRead (T·Target .map) (T·Target .meter) (now (span .entry .enabled)) (span .entry .start + i) i j) (λ i. cutAt (span .entry .start) (now (self .entry) .width) i (length (now (span .entry .enabled)))) (length (now (span .entry .enabled))) (now (self .entry) .lower) (now (self .exit) .lower)) (now (self .exit) .lower ≡ now (self .entry) .lower) ⌝ }
     {
         match sized(buffer.len(), span, self.judge(Command::Read, span)) {
             Status::Okay => {
@@ -88,7 +89,7 @@ pub impl<T: Target> Target for Bridge<T> as BridgeTarget {
         ensures answer { λ r. ⌜ WrittenAs (T·Target .map (now (self .entry) .lower)) (now (self .entry) .toll .spent) (span .entry .start) (now (span .entry .enabled)) (now («data» .entry)) r (T·Target .map (now (self .exit) .lower)) (now (self .exit) .toll .spent) ⌝ }
         ensures charge { λ r. ⌜ Charged (now (self .entry) .toll .charge) (now (self .exit) .toll .charge) (pieces (now (self .entry) .width) (span .entry .start) (length (now (span .entry .enabled)))) (growth (T·Target .meter (now (self .entry) .lower)) (T·Target .meter (now (self .exit) .lower))) r ⌝ }
         ensures width { λ _. ⌜ now (self .exit) .width ≡ now (self .entry) .width ⌝ }
-        ensures below { λ r. ⌜ ifOkay (r .status) (Unit {0}) (now (self .exit) .lower ≡ now (self .entry) .lower) ⌝ }
+        ensures below { λ r. ⌜ ifOkay (r .status) (Reached (λ i j. OneWrite (T·Target .map) (T·Target .meter) (now (span .entry .enabled)) (now («data» .entry)) (span .entry .start + i) i j) (λ i. cutAt (span .entry .start) (now (self .entry) .width) i (length (now (span .entry .enabled)))) (length (now (span .entry .enabled))) (now (self .entry) .lower) (now (self .exit) .lower)) (now (self .exit) .lower ≡ now (self .entry) .lower) ⌝ }
     {
         match sized(data.len(), span, self.judge(Command::Write, span)) {
             Status::Okay => {

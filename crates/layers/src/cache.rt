@@ -3,7 +3,8 @@ ghost use lib.ListN.{length, replicate};
 ghost use Rattle.std.specs.declared.option.Option.the-variants.{None};
 ghost use Rattle.bus.specs.Map.{judged};
 ghost use Rattle.bus.specs.Target.{ReadAs, WrittenAs, ifOkay};
-ghost use Rattle.layers.specs.Cut.{pieces};
+ghost use Rattle.layers.specs.Access.{OneWrite, PieceRead, Reached};
+ghost use Rattle.layers.specs.Cut.{cutAt, pieces};
 ghost use Rattle.layers.specs.Delay.{Charged, limited, growth};
 ghost use Rattle.layers.specs.Lines.{Sound, heldIns, heldAfterRead, heldAfterWrite};
 use crate::line::Line;
@@ -57,7 +58,7 @@ impl<T: Target> Cache<T> {
         ensures sound { λ _. ⌜ (Sound (T·Target .map (now (self .entry) .lower)) (now (self .entry) .lines) → Sound (T·Target .map (now (self .exit) .lower)) (now (self .exit) .lines)) ⌝ }
         ensures lines { λ r. ⌜ heldIns (now (self .exit) .lines) ≡ ifOkay (r .status) (heldAfterRead (T·Target .map (now (self .entry) .lower)) (span .entry .start) (length (now (span .entry .enabled))) (heldIns (now (self .entry) .lines))) (heldIns (now (self .entry) .lines)) ⌝ }
         ensures charge { λ r. ⌜ Charged (now (self .entry) .toll .charge) (now (self .exit) .toll .charge) (pieces 16 (span .entry .start) (length (now (span .entry .enabled)))) (growth (T·Target .meter (now (self .entry) .lower)) (T·Target .meter (now (self .exit) .lower))) r ⌝ }
-        ensures below { λ r. ⌜ ifOkay (r .status) (Unit {0}) (now (self .exit) .lower ≡ now (self .entry) .lower) ⌝ }
+        ensures below { λ r. ⌜ ifOkay (r .status) (Reached (PieceRead (T·Target .map) (T·Target .meter) (span .entry .start) (now (span .entry .enabled))) (λ i. cutAt (span .entry .start) 16 i (length (now (span .entry .enabled)))) (length (now (span .entry .enabled))) (now (self .entry) .lower, heldIns (now (self .entry) .lines)) (now (self .exit) .lower, heldIns (now (self .exit) .lines))) (now (self .exit) .lower ≡ now (self .entry) .lower) ⌝ }
     {
         match sized(buffer.len(), span, self.judge(Command::Read, span)) {
             Status::Okay => {
@@ -74,7 +75,7 @@ impl<T: Target> Cache<T> {
         ensures sound { λ _. ⌜ (Sound (T·Target .map (now (self .entry) .lower)) (now (self .entry) .lines) → Sound (T·Target .map (now (self .exit) .lower)) (now (self .exit) .lines)) ⌝ }
         ensures lines { λ r. ⌜ heldIns (now (self .exit) .lines) ≡ ifOkay (r .status) (heldAfterWrite (span .entry .start) (length (now (span .entry .enabled))) (heldIns (now (self .entry) .lines))) (heldIns (now (self .entry) .lines)) ⌝ }
         ensures charge { λ r. ⌜ Charged (now (self .entry) .toll .charge) (now (self .exit) .toll .charge) 1 (growth (T·Target .meter (now (self .entry) .lower)) (T·Target .meter (now (self .exit) .lower))) r ⌝ }
-        ensures below { λ r. ⌜ ifOkay (r .status) (Unit {0}) (now (self .exit) .lower ≡ now (self .entry) .lower) ⌝ }
+        ensures below { λ r. ⌜ ifOkay (r .status) (OneWrite (T·Target .map) (T·Target .meter) (now (span .entry .enabled)) (now («data» .entry)) (span .entry .start) 0 (length (now (span .entry .enabled))) (now (self .entry) .lower) (now (self .exit) .lower)) (now (self .exit) .lower ≡ now (self .entry) .lower) ⌝ }
     {
         match sized(data.len(), span, self.judge(Command::Write, span)) {
             Status::Okay => {

@@ -1,14 +1,16 @@
 ghost use mathlib.Core.Path.{_≡_};
-ghost use mathlib.Core.Bool.{Bool, true, cond};
+ghost use mathlib.Core.Bool.{true, cond};
 ghost use mathlib.Core.List.{map};
-ghost use Prim.Native.Nat.{ℕ, _+_, _*_, _/_, _%_, _^_, _<_, _≤_};
+ghost use Prim.Native.Nat.{_+_, _*_, _/_, _%_, _^_, _<_, _≤_};
 ghost use lib.ListN.{length, set};
 ghost use Rattle.bus.specs.Map.{judged, filled, written};
 ghost use Rattle.bus.specs.declared.kinds.Command.the-variants.{Read, Write};
 ghost use Rattle.bus.specs.declared.kinds.Status.the-variants.{Okay};
-ghost use Rattle.std.specs.Options.{isSome};
-ghost use Rattle.layers.specs.Cut.{pieces};
-ghost use Rattle.layers.specs.Lines.{Sound, lineIn, heldIns, holds, afterPiece, heldAfterRead, heldAfterWrite, lineUnlessMet};
+ghost use Rattle.bus.specs.Numbers.{isOkay};
+ghost use Rattle.bus.specs.Target.{ifOkay};
+ghost use Rattle.layers.specs.Access.{Asked, OneRead, OneWrite, PieceRead, Reached};
+ghost use Rattle.layers.specs.Cut.{cutAt, pieces};
+ghost use Rattle.layers.specs.Lines.{Sound, whole, lineIn, heldIns, holds, afterPiece, heldAfterRead, heldAfterWrite, lineUnlessMet};
 use crate::lend::part;
 use crate::lend::piece_end;
 use crate::line::Line;
@@ -41,12 +43,23 @@ fn drop_met(lines: &mut [Line; 8], span: Span<'_>)
     }
 }
 
+// Reads a span that is judged 1, in one access below.
+fn read_below<T: Target>(lower: &mut T, span: Span<'_>, buffer: &mut [u8])
+    requires length { ⌜ length (now buffer) ≡ length (now (span .enabled)) ⌝ }
+    requires judged { ⌜ judged (T·Target .map (now lower)) Read (span .start) (now (span .enabled)) ≡ Okay ⌝ }
+    ensures bytes { λ _. ⌜ now (buffer .exit) ≡ filled (T·Target .map (now (lower .entry))) (span .entry .start) (now (span .entry .enabled)) (now (buffer .entry)) ⌝ }
+    ensures map { λ _. ⌜ T·Target .map (now (lower .exit)) ≡ T·Target .map (now (lower .entry)) ⌝ }
+    ensures below { λ _. ⌜ OneRead (T·Target .map) (T·Target .meter) (now (span .entry .enabled)) (span .entry .start) 0 (length (now (span .entry .enabled))) (now (lower .entry)) (now (lower .exit)) ⌝ }
+{
+    lower.read(span, buffer);
+}
+
 // The line as the lower target has it, if it may be read as a whole.
 fn fetch<T: Target>(lower: &mut T, number: u32) -> Option<Line>
     requires { ⌜ number < 2 ^ 28 ⌝ }
     ensures line { λ r. ⌜ r ≡ lineIn (T·Target .map (now (lower .entry))) number ⌝ }
     ensures map { λ _. ⌜ T·Target .map (now (lower .exit)) ≡ T·Target .map (now (lower .entry)) ⌝ }
-    ensures none { λ r. ⌜ cond (isSome r) (Unit {0}) (now (lower .exit) ≡ now (lower .entry)) ⌝ }
+    ensures below { λ _. ⌜ ifOkay (judged (T·Target .map (now (lower .entry))) Read (number * 16) whole) (OneRead (T·Target .map) (T·Target .meter) whole (number * 16) 0 16 (now (lower .entry)) (now (lower .exit))) (now (lower .exit) ≡ now (lower .entry)) ⌝ }
 {
     let marks = [true; 16];
     let span = Span {
@@ -56,7 +69,7 @@ fn fetch<T: Target>(lower: &mut T, number: u32) -> Option<Line>
     match lower.judge(Command::Read, span) {
         Status::Okay => {
             let mut bytes = [0; 16];
-            lower.read(span, &mut bytes);
+            read_below(lower, span, &mut bytes);
             Some(Line::kept(number, bytes))
         }
         _ => None,
@@ -70,7 +83,8 @@ fn hold<T: Target>(lower: &mut T, lines: &mut [Line; 8], number: u32) -> bool
     ensures places { λ _. ⌜ heldIns (now (lines .exit)) ≡ afterPiece (T·Target .map (now (lower .entry))) number (heldIns (now (lines .entry))) ⌝ }
     ensures sound { λ _. ⌜ (Sound (T·Target .map (now (lower .entry))) (now (lines .entry)) → Sound (T·Target .map (now (lower .entry))) (now (lines .exit))) ⌝ }
     ensures map { λ _. ⌜ T·Target .map (now (lower .exit)) ≡ T·Target .map (now (lower .entry)) ⌝ }
-    ensures below { λ _. ⌜ (holds (heldIns (now (lines .entry))) number ≡ true → now (lower .exit) ≡ now (lower .entry)) ⌝ }
+    ensures can { λ r. ⌜ r ≡ cond (holds (heldIns (now (lines .entry))) number) true (isOkay (judged (T·Target .map (now (lower .entry))) Read (number * 16) whole)) ⌝ }
+    ensures below { λ _. ⌜ Asked (holds (heldIns (now (lines .entry))) number) (judged (T·Target .map (now (lower .entry))) Read (number * 16) whole) (OneRead (T·Target .map) (T·Target .meter) whole (number * 16) 0 16 (now (lower .entry)) (now (lower .exit))) (now (lower .exit) ≡ now (lower .entry)) (now (lower .exit) ≡ now (lower .entry)) ⌝ }
 {
     if lines[place(number)].is(number) {
         return true;
@@ -93,13 +107,13 @@ fn read_piece<T: Target>(lower: &mut T, lines: &mut [Line; 8], span: Span<'_>, b
     ensures places { λ _. ⌜ heldIns (now (lines .exit)) ≡ afterPiece (T·Target .map (now (lower .entry))) (span .entry .start / 16) (heldIns (now (lines .entry))) ⌝ }
     ensures sound { λ _. ⌜ (Sound (T·Target .map (now (lower .entry))) (now (lines .entry)) → Sound (T·Target .map (now (lower .entry))) (now (lines .exit))) ⌝ }
     ensures map { λ _. ⌜ T·Target .map (now (lower .exit)) ≡ T·Target .map (now (lower .entry)) ⌝ }
-    ensures below { λ _. ⌜ (holds (heldIns (now (lines .entry))) (span .entry .start / 16) ≡ true → now (lower .exit) ≡ now (lower .entry)) ⌝ }
+    ensures below { λ _. ⌜ Asked (holds (heldIns (now (lines .entry))) (span .entry .start / 16)) (judged (T·Target .map (now (lower .entry))) Read (span .entry .start / 16 * 16) whole) (OneRead (T·Target .map) (T·Target .meter) whole (span .entry .start / 16 * 16) 0 16 (now (lower .entry)) (now (lower .exit))) (OneRead (T·Target .map) (T·Target .meter) (now (span .entry .enabled)) (span .entry .start) 0 (length (now (span .entry .enabled))) (now (lower .entry)) (now (lower .exit))) (now (lower .exit) ≡ now (lower .entry)) ⌝ }
 {
     let number = span.start / 16;
     if hold(lower, lines, number) {
         lines[place(number)].copy_to(span, buffer);
     } else {
-        lower.read(span, buffer);
+        read_below(lower, span, buffer);
     }
 }
 
@@ -116,6 +130,7 @@ pub(crate) fn read_lines<T: Target>(
     ensures places { λ _. ⌜ heldIns (now (lines .exit)) ≡ heldAfterRead (T·Target .map (now (lower .entry))) (span .entry .start) (length (now (span .entry .enabled))) (heldIns (now (lines .entry))) ⌝ }
     ensures sound { λ _. ⌜ (Sound (T·Target .map (now (lower .entry))) (now (lines .entry)) → Sound (T·Target .map (now (lower .entry))) (now (lines .exit))) ⌝ }
     ensures map { λ _. ⌜ T·Target .map (now (lower .exit)) ≡ T·Target .map (now (lower .entry)) ⌝ }
+    ensures accesses { λ _. ⌜ Reached (PieceRead (T·Target .map) (T·Target .meter) (span .entry .start) (now (span .entry .enabled))) (λ i. cutAt (span .entry .start) 16 i (length (now (span .entry .enabled)))) (length (now (span .entry .enabled))) (now (lower .entry), heldIns (now (lines .entry))) (now (lower .exit), heldIns (now (lines .exit))) ⌝ }
     ensures count { λ r. ⌜ r ≡ pieces 16 (span .entry .start) (length (now (span .entry .enabled))) ⌝ }
     ensures few { λ r. ⌜ r ≤ 64 ⌝ }
 {
@@ -139,6 +154,7 @@ pub(crate) fn write_lines<T: Target>(
 )
     requires length { ⌜ length (now bytes) ≡ length (now (span .enabled)) ⌝ }
     requires judged { ⌜ judged (T·Target .map (now lower)) Write (span .start) (now (span .enabled)) ≡ Okay ⌝ }
+    ensures access { λ _. ⌜ OneWrite (T·Target .map) (T·Target .meter) (now (span .entry .enabled)) (now (bytes .entry)) (span .entry .start) 0 (length (now (span .entry .enabled))) (now (lower .entry)) (now (lower .exit)) ⌝ }
     ensures map { λ _. ⌜ T·Target .map (now (lower .exit)) ≡ written (span .entry .start) (now (span .entry .enabled)) (now (bytes .entry)) (T·Target .map (now (lower .entry))) ⌝ }
     ensures places { λ _. ⌜ heldIns (now (lines .exit)) ≡ heldAfterWrite (span .entry .start) (length (now (span .entry .enabled))) (heldIns (now (lines .entry))) ⌝ }
     ensures sound { λ _. ⌜ (Sound (T·Target .map (now (lower .entry))) (now (lines .entry)) → Sound (T·Target .map (now (lower .exit))) (now (lines .exit))) ⌝ }

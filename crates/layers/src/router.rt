@@ -1,8 +1,9 @@
 ghost use mathlib.Core.Path.{_≡_};
 ghost use lib.ListN.{length};
-ghost use Prim.Native.Nat.{_+_, _-_, _≤_};
-ghost use Rattle.bus.specs.Map.{judged, filled, written};
+ghost use Prim.Native.Nat.{_+_, _-_};
+ghost use Rattle.bus.specs.Map.{judged};
 ghost use Rattle.bus.specs.Target.{ReadAs, WrittenAs, ifOkay};
+ghost use Rattle.layers.specs.Access.{AskedOnce, OneRead, OneWrite};
 ghost use Rattle.layers.specs.Delay.{Charged, limited, growth};
 ghost use Rattle.layers.specs.Route.{routed, sidesOf, partsOf};
 use crate::outcome::refused;
@@ -63,7 +64,7 @@ pub impl<L: Target, R: Target> Target for Router<L, R> as RouterTarget {
         ensures answer { λ r. ⌜ ReadAs (routed (now (self .entry) .border) (L·Target .map (now (self .entry) .left)) (R·Target .map (now (self .entry) .right))) (now (self .entry) .toll .spent) (span .entry .start) (now (span .entry .enabled)) (now (buffer .entry)) r (now (buffer .exit)) (routed (now (self .exit) .border) (L·Target .map (now (self .exit) .left)) (R·Target .map (now (self .exit) .right))) (now (self .exit) .toll .spent) ⌝ }
         ensures charge { λ r. ⌜ Charged (now (self .entry) .toll .charge) (now (self .exit) .toll .charge) (partsOf (sidesOf (now (self .entry) .border) (span .entry .start) (length (now (span .entry .enabled))))) (growth (L·Target .meter (now (self .entry) .left)) (L·Target .meter (now (self .exit) .left)) + growth (R·Target .meter (now (self .entry) .right)) (R·Target .meter (now (self .exit) .right))) r ⌝ }
         ensures border { λ _. ⌜ now (self .exit) .border ≡ now (self .entry) .border ⌝ }
-        ensures below { λ r. ⌜ ifOkay (r .status) (Unit {0}) ((now (self .exit) .left ≡ now (self .entry) .left) × (now (self .exit) .right ≡ now (self .entry) .right)) ⌝ }
+        ensures below { λ r. ⌜ ifOkay (r .status) (AskedOnce (OneRead (L·Target .map) (L·Target .meter) (now (span .entry .enabled))) (OneRead (R·Target .map) (R·Target .meter) (now (span .entry .enabled))) (now (self .entry) .border) (span .entry .start) (length (now (span .entry .enabled))) (sidesOf (now (self .entry) .border) (span .entry .start) (length (now (span .entry .enabled)))) (now (self .entry) .left) (now (self .exit) .left) (now (self .entry) .right) (now (self .exit) .right)) ((now (self .exit) .left ≡ now (self .entry) .left) × (now (self .exit) .right ≡ now (self .entry) .right)) ⌝ }
     {
         match sized(buffer.len(), span, self.judge(Command::Read, span)) {
             Status::Okay => {
@@ -82,7 +83,7 @@ pub impl<L: Target, R: Target> Target for Router<L, R> as RouterTarget {
         ensures answer { λ r. ⌜ WrittenAs (routed (now (self .entry) .border) (L·Target .map (now (self .entry) .left)) (R·Target .map (now (self .entry) .right))) (now (self .entry) .toll .spent) (span .entry .start) (now (span .entry .enabled)) (now («data» .entry)) r (routed (now (self .exit) .border) (L·Target .map (now (self .exit) .left)) (R·Target .map (now (self .exit) .right))) (now (self .exit) .toll .spent) ⌝ }
         ensures charge { λ r. ⌜ Charged (now (self .entry) .toll .charge) (now (self .exit) .toll .charge) (partsOf (sidesOf (now (self .entry) .border) (span .entry .start) (length (now (span .entry .enabled))))) (growth (L·Target .meter (now (self .entry) .left)) (L·Target .meter (now (self .exit) .left)) + growth (R·Target .meter (now (self .entry) .right)) (R·Target .meter (now (self .exit) .right))) r ⌝ }
         ensures border { λ _. ⌜ now (self .exit) .border ≡ now (self .entry) .border ⌝ }
-        ensures below { λ r. ⌜ ifOkay (r .status) (Unit {0}) ((now (self .exit) .left ≡ now (self .entry) .left) × (now (self .exit) .right ≡ now (self .entry) .right)) ⌝ }
+        ensures below { λ r. ⌜ ifOkay (r .status) (AskedOnce (OneWrite (L·Target .map) (L·Target .meter) (now (span .entry .enabled)) (now («data» .entry))) (OneWrite (R·Target .map) (R·Target .meter) (now (span .entry .enabled)) (now («data» .entry))) (now (self .entry) .border) (span .entry .start) (length (now (span .entry .enabled))) (sidesOf (now (self .entry) .border) (span .entry .start) (length (now (span .entry .enabled)))) (now (self .entry) .left) (now (self .exit) .left) (now (self .entry) .right) (now (self .exit) .right)) ((now (self .exit) .left ≡ now (self .entry) .left) × (now (self .exit) .right ≡ now (self .entry) .right)) ⌝ }
     {
         match sized(data.len(), span, self.judge(Command::Write, span)) {
             Status::Okay => {

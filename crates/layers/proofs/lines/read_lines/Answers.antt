@@ -1,15 +1,28 @@
-use mathlib.Core.Path.{_≡_, sym, ap, subst, _∙_}
+use mathlib.Core.Path.{_≡_, refl, sym, ap, subst, _∙_}
 use Prim.Native.Nat.{_+_, _-_, _/_, _%_, _≤_, _^_}
 use native.Mathlib.Omega.{arith}
 use lib.ListN.{length}
 use Rattle.bus.specs.Map.{judged, filled}
 use Rattle.bus.specs.declared.kinds.Command.the-variants.{Read}
+use Rattle.layers.specs.Access.{none, PieceRead}
+use Rattle.layers.specs.Cut.{cutAt}
 use Rattle.layers.specs.Lines.{Sound, heldIns, afterPiece}
 use Rattle.layers.specs.Steps.{cut}
-use Rattle.layers.proofs.Lasting.{one-read, none-to-read, within-line}
-use Rattle.layers.proofs.Sofar.{one-counted, all-counted, filled-part, all-read}
+use Rattle.layers.proofs.Accesses.{one-piece-more, all-reached}
+use Rattle.layers.proofs.Lasting.{all-to-read, one-read, none-to-read, within-line}
+use Rattle.layers.proofs.Sofar.{none-counted, one-counted, all-counted, filled-part, all-read}
 use Rattle.layers.proofs.Spans.{lies-below, length-cut, part-judged}
 use Rattle.layers.proofs.lines.read_lines.Needs as need
+
+pub loop-at-holds : need.loop-at-holds
+loop-at-holds g c = (
+  none-counted 16 (c .args .span .start) (length (c .args .span .enabled .now)) (omega arith),
+  refl,
+  all-to-read (g .T·Target .map (c .args .lower .now)) (c .args .span .start) (length (c .args .span .enabled .now)) (heldIns (c .args .lines .now)) (omega arith),
+  (λ sound. sound),
+  (λ sound. refl),
+  none,
+)
 
 pub part-requires : need.part-requires
 part-requires g c κs =
@@ -51,6 +64,8 @@ loop-at-again g c =
       (λ sound.
           filled-part a es i j lt within (c .part .result .start) (c .part .result .enabled .now) (c .part .ensures .enabled) m (c .args .buffer .now) (c .loop-at .buffer) (c .read-piece .last .buffer) (c .pre .length) (c .loop-at .inv .4 sound)
           (c .read-piece .ensures .bytes (subst (λ x. Sound x (c .loop-at .lines)) (sym same) (c .loop-at .inv .3 sound)) ∙ (λ t. filled (same t) (start t) (c .part .ensures .enabled t) (cut i j (c .loop-at .buffer))))),
+      one-piece-more (g .T·Target .map) (g .T·Target .meter) a es (λ k. cutAt a 16 k (length es)) i j (c .piece-end-end .ensures .value) (c .part .result .start) (c .part .result .enabled .now) start (c .part .ensures .enabled) (c .args .lower .now) (c .loop-at .lower) (c .read-piece .last .lower) (heldIns (c .args .lines .now)) (heldIns (c .loop-at .lines)) (heldIns (c .read-piece .last .lines))
+          (c .loop-at .inv .5) (c .read-piece .ensures .below) (c .read-piece .ensures .places),
     )
 
 pub returns : need.returns
@@ -63,6 +78,7 @@ returns g c =
       places = sym (none-to-read m a (c .loop-at .at) (length es) (heldIns (c .loop-at .lines)) (c .loop-at-test .left)) ∙ c .loop-at .inv .2;
       sound = c .loop-at .inv .3;
       map = c .loop-at .inv .1;
+      accesses = all-reached (PieceRead (g .T·Target .map) (g .T·Target .meter) a es) (λ k. cutAt a 16 k (length es)) (c .loop-at .at) (length es) (c .args .lower .now, heldIns (c .args .lines .now)) (c .loop-at .lower, heldIns (c .loop-at .lines)) (c .loop-at .inv .0 .within) (c .loop-at-test .left) (c .loop-at .inv .5);
       count = all-counted 16 a (length es) (c .loop-at .at) (c .loop-at .count) (c .loop-at-test .left) (c .loop-at .inv .0);
       few = omega (arith, c .loop-at .inv .0 .few, c .loop-at .inv .0 .within);
     }

@@ -1,9 +1,12 @@
-use mathlib.Core.Path.{_≡_, sym, _∙_}
+use mathlib.Core.Path.{sym}
 use mathlib.Core.List.{[]}
 use Prim.Native.Nat.{_+_, _≤_, _^_}
 use native.Mathlib.Omega.{arith}
 use lib.ListN.{length}
 use Rattle.bus.specs.declared.kinds.Command.the-variants.{Write}
+use Rattle.layers.specs.Access.{none, OneWrite}
+use Rattle.layers.specs.Cut.{cutAt}
+use Rattle.layers.proofs.Accesses.{one-write-more, all-reached}
 use Rattle.layers.proofs.Sofar.{none-counted, one-counted, all-counted, write-part, all-written}
 use Rattle.layers.proofs.Spans.{lies-below, none-written}
 use Rattle.layers.proofs.pieces.write_pieces.Needs as need
@@ -12,6 +15,7 @@ pub loop-at-holds : need.loop-at-holds
 loop-at-holds g c = (
   none-counted (c .args .width) (c .args .span .start) (length (c .args .span .enabled .now)) (omega arith),
   sym (none-written (g .T·Target .map (c .args .lower .now)) (c .args .span .start) []),
+  none,
 )
 
 pub part-requires : need.part-requires
@@ -29,6 +33,8 @@ loop-at-again g c =
       write-part a es i j (c .piece-end-end .ensures .after) (c .piece-end-end .ensures .within) (c .part .result .start) (c .part .result .enabled .now) (c .part .ensures .enabled)
           (g .T·Target .map (c .args .lower .now)) (c .args .bytes .now) (g .T·Target .map (c .loop-at .lower)) (g .T·Target .meter (c .loop-at .lower)) (c .write .result) (g .T·Target .map (c .write .last .self)) (g .T·Target .meter (c .write .last .self))
           (c .part .ensures .start) (c .pre .length) (c .pre .judged) (c .loop-at .inv .1) (c .write .ensures),
+      one-write-more (g .T·Target .map) (g .T·Target .meter) a es (λ k. cutAt a (c .args .width) k (length es)) i j (c .piece-end-end .ensures .value) (c .part .result .start) (c .part .result .enabled .now) (c .part .ensures .start) (c .part .ensures .enabled) (c .args .lower .now) (c .loop-at .lower) (c .write .last .self)
+          (c .args .bytes .now) (c .write .result) (c .loop-at .inv .2) (c .write .ensures),
     )
 
 pub returns : need.returns
@@ -36,6 +42,7 @@ returns g c =
     let a = c .args .span .start in
     let es = c .args .span .enabled .now in
     record {
+      accesses = all-reached (λ i j. OneWrite (g .T·Target .map) (g .T·Target .meter) es (c .args .bytes .now) (a + i) i j) (λ k. cutAt a (c .args .width) k (length es)) (c .loop-at .at) (length es) (c .args .lower .now) (c .loop-at .lower) (c .loop-at .inv .0 .within) (c .loop-at-test .left) (c .loop-at .inv .2);
       map = all-written (g .T·Target .map (c .args .lower .now)) (g .T·Target .map (c .loop-at .lower)) a es (c .args .bytes .now) (c .loop-at .at) (c .pre .length) (c .loop-at-test .left) (c .loop-at .inv .1);
       count = all-counted (c .args .width) a (length es) (c .loop-at .at) (c .loop-at .count) (c .loop-at-test .left) (c .loop-at .inv .0);
       few = omega (arith, c .loop-at .inv .0 .few, c .loop-at .inv .0 .within);
