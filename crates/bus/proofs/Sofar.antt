@@ -41,9 +41,8 @@ grown_more t t₁ t₂ d e k bound sofar q =
     (cases_eq k 0) in
     subst (λ u. MatchBool u (t₂ ≡ t) (t₂ ≡ (t + (d + e)) % 2 ^ 64)) (sym (ne_eqb (k + 1) 0 (λ z. omega arith))) now
 
-pub record ReadSofar (s s₁ : Type 0) (p : Access) (m : AddressMap) (t : ℕ) (before : List ℕ) (k : ℕ) (buffer : List ℕ) (m₁ : AddressMap) (t₁ delay : ℕ) : Type 0 where
-  pub bytes : s → Partly (found_from 0 p m before) before buffer (place_at p k)
-  pub sound : s → s₁
+pub record ReadSofar (p : Access) (m : AddressMap) (t : ℕ) (before : List ℕ) (k : ℕ) (buffer : List ℕ) (m₁ : AddressMap) (t₁ delay : ℕ) : Type 0 where
+  pub bytes : Partly (found_from 0 p m before) before buffer (place_at p k)
   pub same : m₁ ≡ m
   pub meter : Grown t t₁ delay k
   pub bound : delay ≤ 1000000 * k
@@ -76,11 +75,13 @@ module _ (p : Access) (k i j : ℕ) (marks : List Bool) (wide : 1 ≤ p.width) (
       cond-true (eqb (length part) (length (cut i j marks))) (judged m c p.address (cut i j marks)) GenericError (eq-eqb (length part) (length (cut i j marks)) (long ∙ sym count))
       ∙ judged_shorter m c p.address (marks_from p.enables 0 (min p.width p.length)) (cut i j marks) shorter okay
 
-  pub read_more : (s s₁ s₂ : Type 0) (m : AddressMap) (t : ℕ) (before buffer : List ℕ) (m₁ : AddressMap) (t₁ delay : ℕ) (r : Outcome) (after : List ℕ) (m₂ : AddressMap) (t₂ : ℕ) → length before ≡ p.length → length buffer ≡ p.length → Judged m Read p → ReadSofar s s₁ p m t before k buffer m₁ t₁ delay → (s₁ → s₂) → ReadAs s₁ m₁ t₁ a es (cut i j buffer) r after m₂ t₂ → ReadSofar s s₂ p m t before (k + 1) (put_mid i (j - i) buffer after) m₂ t₂ (delay + r.delay)
-  read_more s s₁ s₂ m t before buffer m₁ t₁ delay r after m₂ t₂ long₀ long okay sofar kept answered =
-      let read : ReadAs s₁ m₁ t₁ p.address (cut i j marks) (cut i j buffer) r after m₂ t₂ = subst (λ x. ReadAs s₁ m₁ t₁ p.address x (cut i j buffer) r after m₂ t₂) of (subst (λ x. ReadAs s₁ m₁ t₁ x es (cut i j buffer) r after m₂ t₂) at answered) in
+  pub read_more : (m : AddressMap) (t : ℕ) (before buffer : List ℕ) (m₁ : AddressMap) (t₁ delay : ℕ) (r : Outcome) (after : List ℕ) (m₂ : AddressMap) (t₂ : ℕ) → length before ≡ p.length → length buffer ≡ p.length → Judged m Read p → ReadSofar p m t before k buffer m₁ t₁ delay → ReadAs m₁ t₁ a es (cut i j buffer) r after m₂ t₂ → ReadSofar p m t before (k + 1) (put_mid i (j - i) buffer after) m₂ t₂ (delay + r.delay)
+  read_more m t before buffer m₁ t₁ delay r after m₂ t₂ long₀ long okay sofar answered =
+      let read : ReadAs m₁ t₁ p.address (cut i j marks) (cut i j buffer) r after m₂ t₂ = subst (λ x. ReadAs m₁ t₁ p.address x (cut i j buffer) r after m₂ t₂) of (subst (λ x. ReadAs m₁ t₁ x es (cut i j buffer) r after m₂ t₂) at answered) in
       let final : List ℕ = found_from 0 p m before in
       let whole : length final ≡ p.length = length_found 0 p m before ∙ long₀ in
+      let partly : Partly final before buffer i = subst (Partly final before buffer) here sofar.bytes in
+      let rest : drop i buffer ≡ drop i before = partly_rest final before buffer i (omega arith) partly in
       let size : length (cut i j before) ≡ j - i = length_part before long₀ in
       let status : r.status ≡ Okay = read.status ∙ beat_status m₁ Read (cut i j buffer) (length_part buffer long) (subst (λ x. Judged x Read p) (sym sofar.same) okay) in
       let x : k * p.width + 0 ≡ i = omega arith in
@@ -89,16 +90,13 @@ module _ (p : Access) (k i j : ℕ) (marks : List Bool) (wide : 1 ≤ p.width) (
       let found : found_from i p m (cut i j before) ≡ filled m p.address (marks_from p.enables i (j - i)) (cut i j before) =
       ap (λ u. found_from u p m (cut i j before)) (sym x) ∙ beat_found p m k 0 (cut i j before) (omega arith)
       ∙ (λ u. filled m (z u) (marks_from p.enables (x u) (size u)) (cut i j before)) in
-      let partly : s → Partly final before buffer i = λ so. subst (Partly final before buffer) here (sofar.bytes so) in
-      let part : s → after ≡ cut i j final = λ so.
-      let rest : drop i buffer ≡ drop i before = partly_rest final before buffer i (omega arith) (partly so) in
-      read.bytes (sofar.sound so) ∙ ap (λ u. if_okay u (filled m₁ p.address (cut i j marks) (cut i j buffer)) (cut i j buffer)) status
+      let part : after ≡ cut i j final =
+      read.bytes ∙ ap (λ u. if_okay u (filled m₁ p.address (cut i j marks) (cut i j buffer)) (cut i j buffer)) status
       ∙ (λ u. filled (sofar.same u) p.address (beat_marks u) (take (j - i) (rest u)))
       ∙ sym found ∙ ap (λ u. found_from u p m (cut i j before)) (sym y)
       ∙ sym (take_found (j - i) (0 + i) p m (drop i before)) ∙ ap (take (j - i)) (sym (drop_found i 0 p m before)) in
       record {
-        bytes = (λ so. subst (Partly final before (put_mid i (j - i) buffer after)) (sym next) (partly_more final before buffer after i j (omega arith) (omega arith) (partly so) (part so)));
-        sound = (λ so. kept (sofar.sound so));
+        bytes = subst (Partly final before (put_mid i (j - i) buffer after)) (sym next) (partly_more final before buffer after i j (omega arith) (omega arith) partly part);
         same = read.map_stays ∙ sofar.same;
         meter = grown_more t t₁ t₂ delay r.delay k sofar.bound sofar.meter read.metered.meter_grows_by_the_delay;
         bound = let a = mul-add 1000000 k 1 in omega (arith, sofar.bound, read.metered.only_the_delay_is_free);
@@ -129,10 +127,10 @@ module _ (p : Access) (k i j : ℕ) (marks : List Bool) (wide : 1 ≤ p.width) (
       }
 
 -- Before the first beat.
-pub read_none : (s : Type 0) (p : Access) (m : AddressMap) (t : ℕ) (before : List ℕ) → ReadSofar s s p m t before 0 before m t 0
-read_none s p m t before =
+pub read_none : (p : Access) (m : AddressMap) (t : ℕ) (before : List ℕ) → ReadSofar p m t before 0 before m t 0
+read_none p m t before =
     let none : place_at p 0 ≡ 0 = let a = zero-mul p.width in omega arith in
-    record { bytes = (λ so. sym (ap (λ u. take u (found_from 0 p m before) ++ drop u before) none)); sound = (λ so. so); same = refl; meter = refl; bound = omega arith }
+    record { bytes = sym (ap (λ u. take u (found_from 0 p m before) ++ drop u before) none); same = refl; meter = refl; bound = omega arith }
 
 pub write_none : (p : Access) (m : AddressMap) (t : ℕ) (bytes : List ℕ) → Judged m Write p → WriteSofar p m t bytes 0 m t 0
 unfolding written_from

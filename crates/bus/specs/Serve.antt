@@ -6,10 +6,10 @@ use Rattle.bus.specs.declared.kinds.Status.TheVariants.{GenericError}
 use Rattle.bus.specs.declared.kinds.Outcome.{Outcome}
 
 -- With a buffer of the payload's length. The delay is the sum of the beats' delays, each at most 1,000,000, and the
--- growth of the meter; without a beat both stay. The bytes rest on what the target's own state meets at the call.
-pub record ServedAs (sound : Type 0) (m : AddressMap) (t : ℕ) (p : Access) (before : List ℕ) (r : Outcome) (after : List ℕ) (m' : AddressMap) (t' : ℕ) : Type 0 where
+-- growth of the meter; without a beat both stay.
+pub record ServedAs (m : AddressMap) (t : ℕ) (p : Access) (before : List ℕ) (r : Outcome) (after : List ℕ) (m' : AddressMap) (t' : ℕ) : Type 0 where
   pub status : r.status ≡ judged_access m p
-  pub bytes : sound → after ≡ buffer_served p m before
+  pub bytes : after ≡ buffer_served p m before
   pub map_after : m' ≡ map_served p before m
   pub meter_grows_by_the_delay : MatchBool (beats_served p m == 0) (t' ≡ t) (t' ≡ (t + r.delay) % 2 ^ 64)
   pub only_the_delay_is_free : r.delay ≤ 1000000 * beats_served p m
@@ -22,5 +22,5 @@ pub record Unserved (m : AddressMap) (t : ℕ) (before : List ℕ) (r : Outcome)
   pub meter_stays : t' ≡ t
   pub no_delay : r.delay ≡ 0
 
-abbrev pub Serves : (sound : Type 0) (m : AddressMap) (t : ℕ) (p : Access) (before : List ℕ) (r : Outcome) (after : List ℕ) (m' : AddressMap) (t' : ℕ) → Type 0
-Serves sound m t p before r after m' t' = MatchBool (length before == p.length) (ServedAs sound m t p before r after m' t') (Unserved m t before r after m' t')
+abbrev pub Serves : (m : AddressMap) (t : ℕ) (p : Access) (before : List ℕ) (r : Outcome) (after : List ℕ) (m' : AddressMap) (t' : ℕ) → Type 0
+Serves m t p before r after m' t' = MatchBool (length before == p.length) (ServedAs m t p before r after m' t') (Unserved m t before r after m' t')

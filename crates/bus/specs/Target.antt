@@ -24,10 +24,9 @@ pub record Metered (t t' most : ℕ) (r : Outcome) : Type 0 where
   pub only_the_delay_is_free : r.delay ≤ most
   pub refused_costs_nothing : if_okay r.status (Unit {0}) ((r.delay ≡ 0) × (t' ≡ t))
 
--- `sound` is what the target's own state must meet for the bytes that it reads to be the map's.
-pub record ReadAs (sound : Type 0) (m : AddressMap) (t a : ℕ) (es : List Bool) (before : List ℕ) (r : Outcome) (after : List ℕ) (m' : AddressMap) (t' : ℕ) : Type 0 where
+pub record ReadAs (m : AddressMap) (t a : ℕ) (es : List Bool) (before : List ℕ) (r : Outcome) (after : List ℕ) (m' : AddressMap) (t' : ℕ) : Type 0 where
   pub status : r.status ≡ status_over m Read a es before
-  pub bytes : sound → after ≡ if_okay r.status (filled m a es before) before
+  pub bytes : after ≡ if_okay r.status (filled m a es before) before
   pub map_stays : m' ≡ m
   pub metered : Metered t t' 1000000 r
 

@@ -39,8 +39,7 @@ fn beat_span<'a>(payload: &Payload, marks: &'a [bool], from: usize, to: usize) -
 fn read_beats<T: Target>(target: &mut T, payload: &Payload, buffer: &mut [u8]) -> u64
     requires length { length buffer.old ≡ payload.now.length }
     requires judged { judged (map target.old) Read payload.now.address (marks_from (access payload.now).enables 0 (min payload.now.width payload.now.length)) ≡ Okay }
-    ensures bytes { sound target.old → buffer.new ≡ found_from 0 (access payload.now) (map target.old) buffer.old }
-    ensures sound { sound target.old → sound target.new }
+    ensures bytes { buffer.new ≡ found_from 0 (access payload.now) (map target.old) buffer.old }
     ensures map { map target.new ≡ map target.old }
     ensures meter { meter target.new ≡ (meter target.old + result) % 2 ^ 64 }
     ensures delay { result ≤ 1000000 * ((payload.now.length - 1) / payload.now.width + 1) }
@@ -59,7 +58,6 @@ fn read_beats<T: Target>(target: &mut T, payload: &Payload, buffer: &mut [u8]) -
 fn write_beats<T: Target>(target: &mut T, payload: &Payload, bytes: &[u8]) -> u64
     requires length { length bytes.now ≡ payload.now.length }
     requires judged { judged (map target.old) Write payload.now.address (marks_from (access payload.now).enables 0 (min payload.now.width payload.now.length)) ≡ Okay }
-    ensures sound { sound target.old → sound target.new }
     ensures map { map target.new ≡ written_from 0 (access payload.now) bytes.now (map target.old) }
     ensures meter { meter target.new ≡ (meter target.old + result) % 2 ^ 64 }
     ensures delay { result ≤ 1000000 * ((payload.now.length - 1) / payload.now.width + 1) }
@@ -88,8 +86,7 @@ fn judge_payload<T: Target>(target: &T, payload: &Payload) -> Status
 
 // Judges a payload once, and with status 1 moves its bytes beat by beat.
 fn judge_and_move<T: Target>(target: &mut T, payload: &Payload, buffer: &mut [u8]) -> Outcome
-    ensures sound { sound target.old → sound target.new }
-    ensures serves { Serves (sound target.old) (map target.old) (meter target.old) (access payload.now) buffer.old result buffer.new (map target.new) (meter target.new) }
+    ensures { Serves (map target.old) (meter target.old) (access payload.now) buffer.old result buffer.new (map target.new) (meter target.new) }
 {
     if buffer.len() != payload.length {
         return Outcome {
@@ -113,8 +110,7 @@ fn judge_and_move<T: Target>(target: &mut T, payload: &Payload, buffer: &mut [u8
 // order. An IGNORE is only judged. What is judged, filled and written obeys the laws.
 pub fn serve<T: Target>(target: &mut T, payload: &Payload, buffer: &mut [u8]) -> Outcome
     ensures laws { Laws }
-    ensures sound { sound target.old → sound target.new }
-    ensures serves { Serves (sound target.old) (map target.old) (meter target.old) (access payload.now) buffer.old result buffer.new (map target.new) (meter target.new) }
+    ensures serves { Serves (map target.old) (meter target.old) (access payload.now) buffer.old result buffer.new (map target.new) (meter target.new) }
 {
     judge_and_move(target, payload, buffer)
 }

@@ -89,9 +89,6 @@ impl Target for Bank {
 
     ghost meter = { λ s. s.meter.spent };
 
-    // no condition: what it reads is what it holds
-    ghost sound = { λ _. Unit {0} };
-
     ghost bounded = { first_of (Prim.search rules, Prim.grind (arith, Self.row.coded.inj)) };
 
     fn judge(&self, command: Command, span: Span<'_>) -> Status
@@ -102,8 +99,7 @@ impl Target for Bank {
     }
 
     fn read(&mut self, span: Span<'_>, buffer: &mut [u8]) -> Outcome
-        ensures answer { ReadAs (Unit {0}) (rows_map (take self.old.count self.old.rows)) self.old.meter.spent span.entry.start span.entry.enabled.now buffer.old result buffer.new (rows_map (take self.new.count self.new.rows)) self.new.meter.spent }
-        ensures sound { Unit {0} → Unit {0} }
+        ensures answer { ReadAs (rows_map (take self.old.count self.old.rows)) self.old.meter.spent span.entry.start span.entry.enabled.now buffer.old result buffer.new (rows_map (take self.new.count self.new.rows)) self.new.meter.spent }
         ensures charge { Charged self.old.meter.latency self.new.meter.latency result }
     {
         match sized(buffer.len(), span, self.judge(Command::Read, span)) {
@@ -117,7 +113,6 @@ impl Target for Bank {
 
     fn write(&mut self, span: Span<'_>, data: &[u8]) -> Outcome
         ensures answer { WrittenAs (rows_map (take self.old.count self.old.rows)) self.old.meter.spent span.entry.start span.entry.enabled.now «data».now result (rows_map (take self.new.count self.new.rows)) self.new.meter.spent }
-        ensures sound { Unit {0} → Unit {0} }
         ensures charge { Charged self.old.meter.latency self.new.meter.latency result }
     {
         match sized(data.len(), span, self.judge(Command::Write, span)) {

@@ -49,9 +49,6 @@ impl<I: Image> Target for Rom<I> {
 
     ghost meter = { λ s. s.meter.spent };
 
-    // no condition: what it reads is what it holds
-    ghost sound = { λ _. Unit {0} };
-
     ghost bounded = { λ s a l. past 0 image_cell (take 65536 (I.Image.bytes s.image)) a (omega (arith, length-take 65536 (I.Image.bytes s.image))) };
 
     fn judge(&self, command: Command, span: Span<'_>) -> Status
@@ -63,8 +60,7 @@ impl<I: Image> Target for Rom<I> {
     }
 
     fn read(&mut self, span: Span<'_>, buffer: &mut [u8]) -> Outcome
-        ensures answer { ReadAs (Unit {0}) (image_map (take 65536 (I.Image.bytes self.old.image))) self.old.meter.spent span.entry.start span.entry.enabled.now buffer.old result buffer.new (image_map (take 65536 (I.Image.bytes self.new.image))) self.new.meter.spent }
-        ensures sound { Unit {0} → Unit {0} }
+        ensures answer { ReadAs (image_map (take 65536 (I.Image.bytes self.old.image))) self.old.meter.spent span.entry.start span.entry.enabled.now buffer.old result buffer.new (image_map (take 65536 (I.Image.bytes self.new.image))) self.new.meter.spent }
         ensures charge { Charged self.old.meter.latency self.new.meter.latency result }
     {
         match sized(buffer.len(), span, self.judge(Command::Read, span)) {
@@ -79,7 +75,6 @@ impl<I: Image> Target for Rom<I> {
     // No span may be written, so every write is refused.
     fn write(&mut self, span: Span<'_>, data: &[u8]) -> Outcome
         ensures answer { WrittenAs (image_map (take 65536 (I.Image.bytes self.old.image))) self.old.meter.spent span.entry.start span.entry.enabled.now «data».now result (image_map (take 65536 (I.Image.bytes self.new.image))) self.new.meter.spent }
-        ensures sound { Unit {0} → Unit {0} }
         ensures charge { Charged self.old.meter.latency self.new.meter.latency result }
     {
         refused(sized(data.len(), span, self.judge(Command::Write, span)))

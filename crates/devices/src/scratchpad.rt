@@ -39,9 +39,6 @@ impl Target for Scratchpad {
 
     ghost meter = { λ s. s.meter.spent };
 
-    // no condition: what it reads is what it holds
-    ghost sound = { λ _. Unit {0} };
-
     ghost bounded = { first_of (Prim.search rules, Prim.grind (arith, Self.row.coded.inj)) };
 
     fn judge(&self, _command: Command, span: Span<'_>) -> Status
@@ -52,8 +49,7 @@ impl Target for Scratchpad {
     }
 
     fn read(&mut self, span: Span<'_>, buffer: &mut [u8]) -> Outcome
-        ensures answer { ReadAs (Unit {0}) (memory_map self.old.bytes) self.old.meter.spent span.entry.start span.entry.enabled.now buffer.old result buffer.new (memory_map self.new.bytes) self.new.meter.spent }
-        ensures sound { Unit {0} → Unit {0} }
+        ensures answer { ReadAs (memory_map self.old.bytes) self.old.meter.spent span.entry.start span.entry.enabled.now buffer.old result buffer.new (memory_map self.new.bytes) self.new.meter.spent }
         ensures charge { Charged self.old.meter.latency self.new.meter.latency result }
     {
         match sized(buffer.len(), span, self.judge(Command::Read, span)) {
@@ -67,7 +63,6 @@ impl Target for Scratchpad {
 
     fn write(&mut self, span: Span<'_>, data: &[u8]) -> Outcome
         ensures answer { WrittenAs (memory_map self.old.bytes) self.old.meter.spent span.entry.start span.entry.enabled.now «data».now result (memory_map self.new.bytes) self.new.meter.spent }
-        ensures sound { Unit {0} → Unit {0} }
         ensures charge { Charged self.old.meter.latency self.new.meter.latency result }
     {
         match sized(data.len(), span, self.judge(Command::Write, span)) {

@@ -10,9 +10,9 @@ use Rattle.bus.proofs.Congruence.{congruence}
 use Rattle.bus.proofs.Cutting.{cutting}
 use Rattle.bus.proofs.Distance.{distance}
 use Rattle.layers.specs.Route.{routed}
-use Rattle.layering.specs.Steps.{cut}
-use Rattle.layering.proofs.FromBusAbsence.{absent}
-use Rattle.layering.proofs.Spans.{length_cut, cut_two}
+use Rattle.layers.specs.Steps.{cut}
+use Rattle.layers.proofs.FromBusAbsence.{absent}
+use Rattle.layers.proofs.Spans.{length_cut, cut_two}
 
 module _ (b : ℕ) (l r : AddressMap) where
   on_left : (x : ℕ) → x < b → routed b l r x ≡ l x

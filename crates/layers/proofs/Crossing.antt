@@ -13,29 +13,29 @@ use Rattle.bus.specs.declared.kinds.Status.TheVariants.{Okay}
 use Rattle.bus.specs.declared.kinds.Outcome.{Outcome}
 use Rattle.bus.proofs.Parts.{Partly}
 use Rattle.layers.specs.Route.{routed}
-use Rattle.layering.specs.Steps.{cut}
+use Rattle.layers.specs.Steps.{cut}
 use Rattle.layers.proofs.Borders.{routed_bounded, agree_left, agree_right, judged_left, judged_right, judged_both, filled_left, filled_right, written_left, written_right, written_both}
-use Rattle.layering.proofs.Lower.{served_read, served_write}
-use Rattle.layering.proofs.Sofar.{read_part, all_read}
-use Rattle.layering.proofs.Spans.{lies_below, length_cut, both_okay}
+use Rattle.layers.proofs.Served.{served_read, served_write}
+use Rattle.layers.proofs.Sofar.{read_part, all_read}
+use Rattle.layers.proofs.Spans.{lies_below, length_cut, both_okay}
 
 module _ (b : ℕ) (l r : AddressMap) (bounded : (x : ℕ) → 2 ^ 32 ≤ x → l x ≡ None) (a : ℕ) (es : List Bool) (some : 1 ≤ length es) where
   pub below : (c : Command) → judged (routed b l r) c a es ≡ Okay → a + length es ≤ 2 ^ 32
   below c okay = lies_below (routed b l r) (routed_bounded b l r bounded) c a es some okay
 
-  pub read_left : (s : Type 0) (t : ℕ) (before : List ℕ) (q : Outcome) (after : List ℕ) (m' : AddressMap) (t' : ℕ) → a + length es ≤ b → length before ≡ length es → judged (routed b l r) Read a es ≡ Okay → s → ReadAs s l t a es before q after m' t' → after ≡ filled (routed b l r) a es before
-  read_left s t before q after m' t' le long okay so read = served_read l t a es before q s after m' t' so read long (judged_left b l r Read a es le ∙ okay) ∙ filled_left b l r a es before le
+  pub read_left : (t : ℕ) (before : List ℕ) (q : Outcome) (after : List ℕ) (m' : AddressMap) (t' : ℕ) → a + length es ≤ b → length before ≡ length es → judged (routed b l r) Read a es ≡ Okay → ReadAs l t a es before q after m' t' → after ≡ filled (routed b l r) a es before
+  read_left t before q after m' t' le long okay read = served_read l t a es before q after m' t' read long (judged_left b l r Read a es le ∙ okay) ∙ filled_left b l r a es before le
 
   pub write_left : (t : ℕ) (bytes : List ℕ) (q : Outcome) (l' : AddressMap) (t' : ℕ) → a + length es ≤ b → length bytes ≡ length es → judged (routed b l r) Write a es ≡ Okay → WrittenAs l t a es bytes q l' t' → routed b l' r ≡ written a es bytes (routed b l r)
   write_left t bytes q l' t' le long okay write = ap (λ x. routed b x r) (served_write l t a es bytes q l' t' write long (judged_left b l r Write a es le ∙ okay)) ∙ written_left b l r a es bytes le
 
   -- The right target was asked for the span as it counts addresses.
   module _ (a₁ : ℕ) (es₁ : List Bool) (at : a₁ ≡ a - b) (of : es₁ ≡ es) (from : b ≤ a) where
-    pub read_right : (s : Type 0) (t : ℕ) (before : List ℕ) (q : Outcome) (after : List ℕ) (m' : AddressMap) (t' : ℕ) → length before ≡ length es → judged (routed b l r) Read a es ≡ Okay → s → ReadAs s r t a₁ es₁ before q after m' t' → after ≡ filled (routed b l r) a es before
-    read_right s t before q after m' t' long okay so answered =
+    pub read_right : (t : ℕ) (before : List ℕ) (q : Outcome) (after : List ℕ) (m' : AddressMap) (t' : ℕ) → length before ≡ length es → judged (routed b l r) Read a es ≡ Okay → ReadAs r t a₁ es₁ before q after m' t' → after ≡ filled (routed b l r) a es before
+    read_right t before q after m' t' long okay answered =
         let le = below Read okay in
-        let read : ReadAs s r t (a - b) es before q after m' t' = subst (λ x. ReadAs s r t (a - b) x before q after m' t') of (subst (λ x. ReadAs s r t x es₁ before q after m' t') at answered) in
-        served_read r t (a - b) es before q s after m' t' so read long (judged_right b l r Read a es from le ∙ okay) ∙ filled_right b l r a es before from le
+        let read : ReadAs r t (a - b) es before q after m' t' = subst (λ x. ReadAs r t (a - b) x before q after m' t') of (subst (λ x. ReadAs r t x es₁ before q after m' t') at answered) in
+        served_read r t (a - b) es before q after m' t' read long (judged_right b l r Read a es from le ∙ okay) ∙ filled_right b l r a es before from le
 
     pub write_right : (t : ℕ) (bytes : List ℕ) (q : Outcome) (r' : AddressMap) (t' : ℕ) → length bytes ≡ length es → judged (routed b l r) Write a es ≡ Okay → WrittenAs r t a₁ es₁ bytes q r' t' → routed b l r' ≡ written a es bytes (routed b l r)
     write_right t bytes q r' t' long okay answered =
@@ -59,16 +59,16 @@ module _ (b : ℕ) (l r : AddressMap) (a : ℕ) (es : List Bool) (at : ℕ) (the
       let f : es₃ ≡ cut at (length es) es = of₃ ∙ of₂ in
       e ∙ (λ t. worse (judged l c (x t) (of₁ t)) (judged r c (y t) (f t))) ∙ judged_both b l r a es at there inside below c
 
-  pub read_both : (s s₂ : Type 0) (t t₂ : ℕ) (before : List ℕ) (q q₂ : Outcome) (after after₂ : List ℕ) (l' r' : AddressMap) (t' t₂' : ℕ) → length before ≡ length es → length after ≡ length (cut 0 at before) → judged (routed b l r) Read a es ≡ Okay → s → s₂ → ReadAs s l t a₁ es₁ (cut 0 at before) q after l' t' → ReadAs s₂ r t₂ a₃ es₃ (cut at (length es) (put_mid 0 (at - 0) before after)) q₂ after₂ r' t₂' → put_mid at (length es - at) (put_mid 0 (at - 0) before after) after₂ ≡ filled (routed b l r) a es before
-  read_both s s₂ t t₂ before q q₂ after after₂ l' r' t' t₂' long kept okay so so₂ read read₂ =
+  pub read_both : (t t₂ : ℕ) (before : List ℕ) (q q₂ : Outcome) (after after₂ : List ℕ) (l' r' : AddressMap) (t' t₂' : ℕ) → length before ≡ length es → length after ≡ length (cut 0 at before) → judged (routed b l r) Read a es ≡ Okay → ReadAs l t a₁ es₁ (cut 0 at before) q after l' t' → ReadAs r t₂ a₃ es₃ (cut at (length es) (put_mid 0 (at - 0) before after)) q₂ after₂ r' t₂' → put_mid at (length es - at) (put_mid 0 (at - 0) before after) after₂ ≡ filled (routed b l r) a es before
+  read_both t t₂ before q q₂ after after₂ l' r' t' t₂' long kept okay read read₂ =
       let m : AddressMap = routed b l r in
       let x : a + 0 ≡ a = add-zero a in
       let agree₁ : Agree m l (a + 0) a₁ (at - 0) = λ i lt. agree_left b l r (a + 0) (at - 0) (omega arith) i lt ∙ ap (λ z. l (z + i)) (sym at₁) in
       let y : a₃ ≡ a + at - b = at₃ ∙ ap (λ z. z - b) at₂ in
       let agree₂ : Agree m r (a + at) a₃ (length es - at) = λ i lt. agree_right b l r (a + at) (length es - at) (omega arith) (omega arith) i lt ∙ ap (λ z. r (z + i)) (sym y) in
-      let one : Partly (filled m a es before) before (put_mid 0 (at - 0) before after) at = read_part a es 0 at first (omega arith) a₁ es₁ of₁ s m before before l t q after l' t' long long okay refl agree₁ so read in
+      let one : Partly (filled m a es before) before (put_mid 0 (at - 0) before after) at = read_part a es 0 at first (omega arith) a₁ es₁ of₁ m before before l t q after l' t' long long okay refl agree₁ read in
       let size : length (put_mid 0 (at - 0) before after) ≡ length es = length_put_mid before after at (omega arith) kept ∙ long in
-      let two : Partly (filled m a es before) before (put_mid at (length es - at) (put_mid 0 (at - 0) before after) after₂) (length es) = read_part a es at (length es) inside (omega arith) a₃ es₃ (of₃ ∙ of₂) s₂ m before (put_mid 0 (at - 0) before after) r t₂ q₂ after₂ r' t₂' long size okay one agree₂ so₂ read₂ in
+      let two : Partly (filled m a es before) before (put_mid at (length es - at) (put_mid 0 (at - 0) before after) after₂) (length es) = read_part a es at (length es) inside (omega arith) a₃ es₃ (of₃ ∙ of₂) m before (put_mid 0 (at - 0) before after) r t₂ q₂ after₂ r' t₂' long size okay one agree₂ read₂ in
       all_read m a es before (put_mid at (length es - at) (put_mid 0 (at - 0) before after) after₂) (length es) long (omega arith) two
 
   pub write_both : (t t₂ : ℕ) (bytes : List ℕ) (q q₂ : Outcome) (l' r' : AddressMap) (t' t₂' : ℕ) → length bytes ≡ length es → judged (routed b l r) Write a es ≡ Okay → WrittenAs l t a₁ es₁ (cut 0 at bytes) q l' t' → WrittenAs r t₂ a₃ es₃ (cut at (length es) bytes) q₂ r' t₂' → routed b l' r' ≡ written a es bytes (routed b l r)

@@ -1,2 +1,12 @@
+pub mod FromBusAbsence
+pub mod FromBusFilling
+pub mod Spans
+pub mod Counting
+pub mod Served
+pub mod Sofar
 pub mod Borders
 pub mod Crossing
+pub mod Changing
+pub mod Holding
+pub mod Lasting
+pub mod Accesses

@@ -22,9 +22,3 @@ abbrev pub parts_of : Sides → ℕ
 parts_of Left = 1
 parts_of Right = 1
 parts_of (Both at) = 2
-
--- A side that has a part of the n bytes from a is asked for it once; one that has none stays as it is.
-abbrev pub AskedOnce : {X Y : Type 0} → (ℕ → (i j : ℕ) → X → X → Type 0) → (ℕ → (i j : ℕ) → Y → Y → Type 0) → (border a n : ℕ) → Sides → X → X → Y → Y → Type 0
-AskedOnce left right border a n Left x x' y y' = left a 0 n x x' × (y' ≡ y)
-AskedOnce left right border a n Right x x' y y' = (x' ≡ x) × right (a - border) 0 n y y'
-AskedOnce left right border a n (Both at) x x' y y' = left a 0 at x x' × right (a + at - border) at n y y'

@@ -1,15 +1,15 @@
 ghost use Rattle.std.specs.Prelude.{◌≡◌, ◌+◌, ◌≤◌, length};
 ghost use Rattle.bus.specs.Map.{judged};
 ghost use Rattle.bus.specs.Target.{ReadAs, WrittenAs, if_okay};
-ghost use Rattle.layering.specs.Access.{Reached, OneRead, OneWrite};
-ghost use Rattle.layering.specs.Cut.{cut_at, pieces};
-ghost use Rattle.layers.specs.Width.{width_of};
-ghost use Rattle.layering.specs.Delay.{Charged, limited, growth};
+ghost use Rattle.layers.specs.Access.{Reached, OneRead, OneWrite};
+ghost use Rattle.layers.specs.Cut.{cut_at, pieces, width_of};
+ghost use Rattle.layers.specs.Delay.{Charged, limited, growth};
 ghost use Rattle.std.proofs.Common.{rules, arith};
 
+use crate::outcome::{refused, served, sized};
 use crate::pieces::{read_pieces, write_pieces};
+use crate::toll::{Toll, growth_since};
 use bus::{Command, Outcome, Span, Status, Target};
-use layering::{Toll, growth_since, refused, served, sized};
 
 // Hands each span down in pieces that pass no multiple of the width.
 #[derive(Drop)]
@@ -37,7 +37,6 @@ impl<T: Target> Bridge<T> {
     pub fn new(lower: T, width: u64, charge: u64) -> Bridge<T>
         ensures map { T.Target.map result.lower ≡ T.Target.map lower }
         ensures lower { result.lower ≡ lower }
-        ensures sound { T.Target.sound lower → T.Target.sound result.lower }
         ensures width { result.width ≡ width_of width }
         ensures charge { result.toll.charge ≡ limited charge }
         ensures meter { result.toll.spent ≡ 0 }
@@ -55,9 +54,6 @@ impl<T: Target> Target for Bridge<T> {
 
     ghost meter = { λ s. s.toll.spent };
 
-    // a bridge has no condition of its own
-    ghost sound = { λ s. T.Target.sound s.lower };
-
     ghost bounded = { first_of (Prim.search rules, Prim.grind (arith, Self.row.coded.inj)) };
 
     fn judge(&self, command: Command, span: Span<'_>) -> Status
@@ -68,11 +64,10 @@ impl<T: Target> Target for Bridge<T> {
     }
 
     fn read(&mut self, span: Span<'_>, buffer: &mut [u8]) -> Outcome
-        ensures answer { ReadAs (T.Target.sound self.old.lower) (T.Target.map self.old.lower) self.old.toll.spent span.entry.start span.entry.enabled.now buffer.old result buffer.new (T.Target.map self.new.lower) self.new.toll.spent }
-        ensures sound { T.Target.sound self.old.lower → T.Target.sound self.new.lower }
+        ensures answer { ReadAs (T.Target.map self.old.lower) self.old.toll.spent span.entry.start span.entry.enabled.now buffer.old result buffer.new (T.Target.map self.new.lower) self.new.toll.spent }
         ensures charge { Charged self.old.toll.charge self.new.toll.charge (pieces self.old.width span.entry.start (length span.entry.enabled.now)) (growth (T.Target.meter self.old.lower) (T.Target.meter self.new.lower)) result }
         ensures width { self.new.width ≡ self.old.width }
-        ensures below { if_okay result.status (Reached (λ i j. OneRead T.Target.sound T.Target.map T.Target.meter span.entry.enabled.now (span.entry.start + i) i j) (λ i. cut_at span.entry.start self.old.width i (length span.entry.enabled.now)) (length span.entry.enabled.now) self.old.lower self.new.lower) (self.new.lower ≡ self.old.lower) }
+        ensures below { if_okay result.status (Reached (λ i j. OneRead T.Target.map T.Target.meter span.entry.enabled.now (span.entry.start + i) i j) (λ i. cut_at span.entry.start self.old.width i (length span.entry.enabled.now)) (length span.entry.enabled.now) self.old.lower self.new.lower) (self.new.lower ≡ self.old.lower) }
     {
         match sized(buffer.len(), span, self.judge(Command::Read, span)) {
             Status::Okay => {
@@ -86,7 +81,6 @@ impl<T: Target> Target for Bridge<T> {
 
     fn write(&mut self, span: Span<'_>, data: &[u8]) -> Outcome
         ensures answer { WrittenAs (T.Target.map self.old.lower) self.old.toll.spent span.entry.start span.entry.enabled.now «data».now result (T.Target.map self.new.lower) self.new.toll.spent }
-        ensures sound { T.Target.sound self.old.lower → T.Target.sound self.new.lower }
         ensures charge { Charged self.old.toll.charge self.new.toll.charge (pieces self.old.width span.entry.start (length span.entry.enabled.now)) (growth (T.Target.meter self.old.lower) (T.Target.meter self.new.lower)) result }
         ensures width { self.new.width ≡ self.old.width }
         ensures below { if_okay result.status (Reached (λ i j. OneWrite T.Target.map T.Target.meter span.entry.enabled.now «data».now (span.entry.start + i) i j) (λ i. cut_at span.entry.start self.old.width i (length span.entry.enabled.now)) (length span.entry.enabled.now) self.old.lower self.new.lower) (self.new.lower ≡ self.old.lower) }

@@ -2,12 +2,11 @@ ghost use Rattle.std.specs.Prelude.{◌≡◌, ◌+◌, ◌<◌, ◌≤◌, leng
 ghost use Rattle.bus.specs.Map.{judged, filled, written};
 ghost use Rattle.bus.specs.declared.kinds.Command.TheVariants.{Read, Write};
 ghost use Rattle.bus.specs.declared.kinds.Status.TheVariants.{Okay};
-ghost use Rattle.layering.specs.Access.{Reached, OneRead, OneWrite};
-ghost use Rattle.layering.specs.Cut.{cut_at, pieces};
+ghost use Rattle.layers.specs.Access.{Reached, OneRead, OneWrite};
+ghost use Rattle.layers.specs.Cut.{cut_at, pieces};
 
-use crate::lend::part;
+use crate::lend::{part, piece_end};
 use bus::{Span, Target};
-use layering::piece_end;
 
 // Reads a span that is judged 1, one piece after another, and answers how many pieces it has.
 pub(crate) fn read_pieces<T: Target>(
@@ -19,10 +18,9 @@ pub(crate) fn read_pieces<T: Target>(
     requires width { (1 ≤ width) × (width ≤ 16) }
     requires length { length buffer.old ≡ length span.enabled.now }
     requires judged { judged (map lower.old) Read span.start span.enabled.now ≡ Okay }
-    ensures bytes { T.Target.sound lower.old → buffer.new ≡ filled (map lower.old) span.entry.start span.entry.enabled.now buffer.old }
+    ensures bytes { buffer.new ≡ filled (map lower.old) span.entry.start span.entry.enabled.now buffer.old }
     ensures map { map lower.new ≡ map lower.old }
-    ensures accesses { Reached (λ i j. OneRead T.Target.sound T.Target.map T.Target.meter span.entry.enabled.now (span.entry.start + i) i j) (λ i. cut_at span.entry.start width i (length span.entry.enabled.now)) (length span.entry.enabled.now) lower.old lower.new }
-    ensures sound { T.Target.sound lower.old → T.Target.sound lower.new }
+    ensures accesses { Reached (λ i j. OneRead T.Target.map T.Target.meter span.entry.enabled.now (span.entry.start + i) i j) (λ i. cut_at span.entry.start width i (length span.entry.enabled.now)) (length span.entry.enabled.now) lower.old lower.new }
     ensures count { result ≡ pieces width span.entry.start (length span.entry.enabled.now) }
     ensures few { result ≤ 64 }
 {
@@ -49,7 +47,6 @@ pub(crate) fn write_pieces<T: Target>(
     requires judged { judged (map lower.old) Write span.start span.enabled.now ≡ Okay }
     ensures map { map lower.new ≡ written span.entry.start span.entry.enabled.now bytes.now (map lower.old) }
     ensures accesses { Reached (λ i j. OneWrite T.Target.map T.Target.meter span.entry.enabled.now bytes.now (span.entry.start + i) i j) (λ i. cut_at span.entry.start width i (length span.entry.enabled.now)) (length span.entry.enabled.now) lower.old lower.new }
-    ensures sound { T.Target.sound lower.old → T.Target.sound lower.new }
     ensures count { result ≡ pieces width span.entry.start (length span.entry.enabled.now) }
     ensures few { result ≤ 64 }
 {

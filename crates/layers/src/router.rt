@@ -1,15 +1,16 @@
 ghost use Rattle.std.specs.Prelude.{◌≡◌, ◌+◌, ◌-◌, length};
 ghost use Rattle.bus.specs.Map.{judged};
 ghost use Rattle.bus.specs.Target.{ReadAs, WrittenAs, if_okay};
-ghost use Rattle.layers.specs.Route.{AskedOnce, routed, sides_of, parts_of};
-ghost use Rattle.layering.specs.Access.{OneRead, OneWrite};
-ghost use Rattle.layering.specs.Delay.{Charged, limited, growth};
+ghost use Rattle.layers.specs.Access.{AskedOnce, OneRead, OneWrite};
+ghost use Rattle.layers.specs.Delay.{Charged, limited, growth};
+ghost use Rattle.layers.specs.Route.{routed, sides_of, parts_of};
 ghost use Rattle.std.proofs.Common.{rules};
 
+use crate::outcome::{refused, served, sized};
 use crate::routing::{judge_sides, read_sides, write_sides};
 use crate::sides::Sides;
+use crate::toll::{Toll, growth_since};
 use bus::{Command, Outcome, Span, Status, Target};
-use layering::{Toll, growth_since, refused, served, sized};
 
 // Two targets side by side: addresses below the border are the left one's, the others the right one's.
 #[derive(Drop)]
@@ -25,7 +26,6 @@ impl<L: Target, R: Target> Router<L, R> {
         ensures map { routed result.border (L.Target.map result.left) (R.Target.map result.right) ≡ routed border (L.Target.map left) (R.Target.map right) }
         ensures left { result.left ≡ left }
         ensures right { result.right ≡ right }
-        ensures sound { (L.Target.sound left × R.Target.sound right) → (L.Target.sound result.left × R.Target.sound result.right) }
         ensures border { result.border ≡ border }
         ensures charge { result.toll.charge ≡ limited charge }
         ensures meter { result.toll.spent ≡ 0 }
@@ -44,9 +44,6 @@ impl<L: Target, R: Target> Target for Router<L, R> {
 
     ghost meter = { λ s. s.toll.spent };
 
-    // a router has no condition of its own
-    ghost sound = { λ s. L.Target.sound s.left × R.Target.sound s.right };
-
     ghost bounded = { Prim.search rules };
 
     fn judge(&self, command: Command, span: Span<'_>) -> Status
@@ -57,11 +54,10 @@ impl<L: Target, R: Target> Target for Router<L, R> {
     }
 
     fn read(&mut self, span: Span<'_>, buffer: &mut [u8]) -> Outcome
-        ensures answer { ReadAs (L.Target.sound self.old.left × R.Target.sound self.old.right) (routed self.old.border (L.Target.map self.old.left) (R.Target.map self.old.right)) self.old.toll.spent span.entry.start span.entry.enabled.now buffer.old result buffer.new (routed self.new.border (L.Target.map self.new.left) (R.Target.map self.new.right)) self.new.toll.spent }
-        ensures sound { (L.Target.sound self.old.left × R.Target.sound self.old.right) → (L.Target.sound self.new.left × R.Target.sound self.new.right) }
+        ensures answer { ReadAs (routed self.old.border (L.Target.map self.old.left) (R.Target.map self.old.right)) self.old.toll.spent span.entry.start span.entry.enabled.now buffer.old result buffer.new (routed self.new.border (L.Target.map self.new.left) (R.Target.map self.new.right)) self.new.toll.spent }
         ensures charge { Charged self.old.toll.charge self.new.toll.charge (parts_of (sides_of self.old.border span.entry.start (length span.entry.enabled.now))) (growth (L.Target.meter self.old.left) (L.Target.meter self.new.left) + growth (R.Target.meter self.old.right) (R.Target.meter self.new.right)) result }
         ensures border { self.new.border ≡ self.old.border }
-        ensures below { if_okay result.status (AskedOnce (OneRead L.Target.sound L.Target.map L.Target.meter span.entry.enabled.now) (OneRead R.Target.sound R.Target.map R.Target.meter span.entry.enabled.now) self.old.border span.entry.start (length span.entry.enabled.now) (sides_of self.old.border span.entry.start (length span.entry.enabled.now)) self.old.left self.new.left self.old.right self.new.right) ((self.new.left ≡ self.old.left) × (self.new.right ≡ self.old.right)) }
+        ensures below { if_okay result.status (AskedOnce (OneRead L.Target.map L.Target.meter span.entry.enabled.now) (OneRead R.Target.map R.Target.meter span.entry.enabled.now) self.old.border span.entry.start (length span.entry.enabled.now) (sides_of self.old.border span.entry.start (length span.entry.enabled.now)) self.old.left self.new.left self.old.right self.new.right) ((self.new.left ≡ self.old.left) × (self.new.right ≡ self.old.right)) }
     {
         match sized(buffer.len(), span, self.judge(Command::Read, span)) {
             Status::Okay => {
@@ -78,7 +74,6 @@ impl<L: Target, R: Target> Target for Router<L, R> {
 
     fn write(&mut self, span: Span<'_>, data: &[u8]) -> Outcome
         ensures answer { WrittenAs (routed self.old.border (L.Target.map self.old.left) (R.Target.map self.old.right)) self.old.toll.spent span.entry.start span.entry.enabled.now «data».now result (routed self.new.border (L.Target.map self.new.left) (R.Target.map self.new.right)) self.new.toll.spent }
-        ensures sound { (L.Target.sound self.old.left × R.Target.sound self.old.right) → (L.Target.sound self.new.left × R.Target.sound self.new.right) }
         ensures charge { Charged self.old.toll.charge self.new.toll.charge (parts_of (sides_of self.old.border span.entry.start (length span.entry.enabled.now))) (growth (L.Target.meter self.old.left) (L.Target.meter self.new.left) + growth (R.Target.meter self.old.right) (R.Target.meter self.new.right)) result }
         ensures border { self.new.border ≡ self.old.border }
         ensures below { if_okay result.status (AskedOnce (OneWrite L.Target.map L.Target.meter span.entry.enabled.now «data».now) (OneWrite R.Target.map R.Target.meter span.entry.enabled.now «data».now) self.old.border span.entry.start (length span.entry.enabled.now) (sides_of self.old.border span.entry.start (length span.entry.enabled.now)) self.old.left self.new.left self.old.right self.new.right) ((self.new.left ≡ self.old.left) × (self.new.right ≡ self.old.right)) }

@@ -3,8 +3,8 @@ ghost use Rattle.bus.specs.Map.{judged, filled, written};
 ghost use Rattle.bus.specs.Numbers.{worse};
 ghost use Rattle.bus.specs.declared.kinds.Command.TheVariants.{Read, Write};
 ghost use Rattle.bus.specs.declared.kinds.Status.TheVariants.{Okay};
-ghost use Rattle.layers.specs.Route.{AskedOnce, routed, sides_of};
-ghost use Rattle.layering.specs.Access.{OneRead, OneWrite};
+ghost use Rattle.layers.specs.Access.{AskedOnce, OneRead, OneWrite};
+ghost use Rattle.layers.specs.Route.{routed, sides_of};
 
 use crate::lend::part;
 use crate::sides::Sides;
@@ -76,9 +76,8 @@ pub(crate) fn read_sides<L: Target, R: Target>(
 )
     requires length { length buffer.old ≡ length span.enabled.now }
     requires judged { judged (routed border (L.Target.map left.old) (R.Target.map right.old)) Read span.start span.enabled.now ≡ Okay }
-    ensures bytes { (L.Target.sound left.old × R.Target.sound right.old) → buffer.new ≡ filled (routed border (L.Target.map left.old) (R.Target.map right.old)) span.entry.start span.entry.enabled.now buffer.old }
-    ensures sound { (L.Target.sound left.old × R.Target.sound right.old) → (L.Target.sound left.new × R.Target.sound right.new) }
-    ensures accesses { AskedOnce (OneRead L.Target.sound L.Target.map L.Target.meter span.entry.enabled.now) (OneRead R.Target.sound R.Target.map R.Target.meter span.entry.enabled.now) border span.entry.start (length span.entry.enabled.now) (sides_of border span.entry.start (length span.entry.enabled.now)) left.old left.new right.old right.new }
+    ensures bytes { buffer.new ≡ filled (routed border (L.Target.map left.old) (R.Target.map right.old)) span.entry.start span.entry.enabled.now buffer.old }
+    ensures accesses { AskedOnce (OneRead L.Target.map L.Target.meter span.entry.enabled.now) (OneRead R.Target.map R.Target.meter span.entry.enabled.now) border span.entry.start (length span.entry.enabled.now) (sides_of border span.entry.start (length span.entry.enabled.now)) left.old left.new right.old right.new }
     ensures left { L.Target.map left.new ≡ L.Target.map left.old }
     ensures right { R.Target.map right.new ≡ R.Target.map right.old }
 {
@@ -104,7 +103,6 @@ pub(crate) fn write_sides<L: Target, R: Target>(
     requires length { length bytes.now ≡ length span.enabled.now }
     requires judged { judged (routed border (L.Target.map left.old) (R.Target.map right.old)) Write span.start span.enabled.now ≡ Okay }
     ensures accesses { AskedOnce (OneWrite L.Target.map L.Target.meter span.entry.enabled.now bytes.now) (OneWrite R.Target.map R.Target.meter span.entry.enabled.now bytes.now) border span.entry.start (length span.entry.enabled.now) (sides_of border span.entry.start (length span.entry.enabled.now)) left.old left.new right.old right.new }
-    ensures sound { (L.Target.sound left.old × R.Target.sound right.old) → (L.Target.sound left.new × R.Target.sound right.new) }
     ensures map { routed border (L.Target.map left.new) (R.Target.map right.new) ≡ written span.entry.start span.entry.enabled.now bytes.now (routed border (L.Target.map left.old) (R.Target.map right.old)) }
 {
     let len = span.enabled.len();

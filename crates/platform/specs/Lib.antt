@@ -1,4 +1,1 @@
-pub mod Phases
 pub mod States
-pub mod Stages
-pub mod Runs

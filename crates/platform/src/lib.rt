@@ -1,9 +1,5 @@
 mod answers;
-mod phase;
 mod platform;
-mod work;
-mod works;
 
-pub use answers::{Blocked, Delivery, Ended};
-pub use phase::Phase;
+pub use answers::Blocked;
 pub use platform::Platform;

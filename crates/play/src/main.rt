@@ -29,7 +29,7 @@ fn answer_all<W: Write>(
 
 // Answers each whole line that was read before it reads again.
 fn main(rt: HostRuntime) -> io::Result<()> {
-    let mut player = Player::new(rt.alloc())?;
+    let mut player = Player::new();
     let mut text = Text::new();
     let mut input = vec![in rt.alloc(); 0u8; 65536]?;
     let mut out = BufWriter::new(rt.alloc(), rt.stdout())?;

@@ -2,4 +2,3 @@ pub mod Buffer
 pub mod Shown
 pub mod Digits
 pub mod Stream
-pub mod Soundness

@@ -5,7 +5,7 @@ use Rattle.std.proofs.lemmas.Bool.{cond-true, cond-false, ne_eqb}
 use Rattle.lines.specs.Lines.{Held, kept, over, held_of, grown_by, none_held, whole_lines, last_part}
 use Rattle.lines.specs.Laws.{NoEnd}
 use Rattle.lines.proofs.CutLaws.{laws}
-use Rattle.protocol.specs.States.{State}
+use Rattle.protocol.specs.Runs.{State}
 use Rattle.player.specs.Answers.{Printed, LineAnswered}
 use Rattle.player.specs.Streams.{number_after, Played, more, Heard, lines_of}
 

@@ -1,12 +1,9 @@
 -- The answer to one line of a script.
-use Rattle.std.specs.Prelude.{◌≡◌, ℕ, ◌≤◌, min, Bool, cond, ◌&&◌, List, [], length, take, replicate, Some, None, Ok, Err, Option, Result, MatchResult, ◌==◌}
+use Rattle.std.specs.Prelude.{◌≡◌, ℕ, ◌≤◌, min, Bool, cond, ◌&&◌, List, [], length, replicate, Some, None, Ok, Err, Option, Result, MatchResult, ◌==◌}
 use Rattle.bus.specs.Numbers.{is_okay}
 use Rattle.protocol.specs.Settings.{Asked, settled}
-use Rattle.protocol.specs.Calls.{Call, begin, step, finish, blocking, sync, Answer, refused, accepted, event, idle, finished, served, synced}
-use Rattle.protocol.specs.States.{State, fresh}
-use Rattle.protocol.specs.Rules.{Answered}
-use Rattle.protocol.specs.declared.events.EventKind.{EventKind}
-use Rattle.protocol.specs.declared.events.EventKind.TheVariants.{EndRequest, BeginResponse}
+use Rattle.protocol.specs.Runs.{State, Call, blocking, sync, Answer, refused, served, synced}
+use Rattle.protocol.specs.Rules.{Answered, fresh}
 use Rattle.lines.specs.Lines.{Held, line_of}
 use Rattle.script.specs.Forms.{bytes_of}
 use Rattle.script.specs.Records as records
@@ -17,7 +14,7 @@ use Rattle.script.specs.declared.faults.PlayerFault.TheVariants.{TooLong, Record
 use Rattle.script.specs.declared.faults.RecordFault.{RecordFault}
 use Rattle.response.specs.Lines as lines
 use Rattle.response.specs.Lines.{Line}
-use Rattle.player.specs.Interconnect.{start_map}
+use Rattle.player.specs.Start.{start_map}
 
 -- The buffer of a blocking call: a WRITE's data, else zeros. Data that may not come leaves it empty, which is refused.
 abbrev pub buffer_for : (command len : ℕ) → List ℕ → List ℕ
@@ -30,46 +27,16 @@ buffer_size command len given = cond (command == 1) given (cond (given == 0) (mi
 abbrev pub blocking_call : (port command address len width : ℕ) → (enables digits : List ℕ) → Call
 blocking_call port command address len width enables digits = blocking port (record { command = command; address = address; length = len; width = width; enables = bytes_of enables }) (buffer_for command len (bytes_of digits))
 
-abbrev pub begin_call : (port tag command address len width : ℕ) → (enables digits : List ℕ) → Call
-begin_call port tag command address len width enables digits = begin port tag (record { command = command; address = address; length = len; width = width; enables = bytes_of enables }) (bytes_of digits)
-
--- An end has a buffer of 64 zeros.
-abbrev pub end_call : (port tag : ℕ) → Call
-end_call port tag = finish port tag (replicate 64 0)
-
-abbrev pub event_line : EventKind → (port tag time : ℕ) → Line
-event_line EndRequest port tag time = lines.end_req_line port tag time
-event_line BeginResponse port tag time = lines.begin_resp_line port tag time
-
--- The bytes of the buffer that answer a READ, if any do.
-abbrev pub bytes_shown : (read : ℕ) → List ℕ → Option (List ℕ)
-bytes_shown read buffer = cond (read == 0) None (Some (take read buffer))
-
--- The line that shows an answer to a call of a port, with the tag and the command of the call and the platform's time
--- before it. A READ of status 1 shows its bytes.
-abbrev pub answer_line : (port tag command time : ℕ) → Answer → Line
-answer_line port tag command time (refused e) = lines.no_line e
-answer_line port tag command time (accepted r) = lines.req_line port tag time
-answer_line port tag command time (event k p g n) = event_line k p g n
-answer_line port tag command time (idle n) = lines.idle_line n
-answer_line port tag command time (finished r status read buffer) = lines.end_resp_line port tag status (bytes_shown read buffer)
-answer_line port tag command time (served local status buffer) = lines.done_line port local status (cond (command == 0 && is_okay status) (Some buffer) None)
-answer_line port tag command time (synced n) = lines.sync_line port n
-
-abbrev pub begin_line : (port tag time : ℕ) → Answer → Line
-begin_line port tag time = answer_line port tag 0 time
-
-abbrev pub step_line : Answer → Line
-step_line = answer_line 0 0 0 0
-
-abbrev pub end_line : (port tag : ℕ) → Answer → Line
-end_line port tag = answer_line port tag 0 0
-
+-- A READ of status 1 shows its bytes.
 abbrev pub blocking_line : (port command : ℕ) → Answer → Line
-blocking_line port command = answer_line port 0 command 0
+blocking_line port command (refused e) = lines.no_line e
+blocking_line port command (served local status buffer) = lines.done_line port local status (cond (command == 0 && is_okay status) (Some buffer) None)
+blocking_line port command (synced time) = lines.sync_line port time
 
 abbrev pub sync_line : (port : ℕ) → Answer → Line
-sync_line port = answer_line port 0 0 0
+sync_line port (refused e) = lines.no_line e
+sync_line port (served local status buffer) = lines.done_line port local status (Some buffer)
+sync_line port (synced time) = lines.sync_line port time
 
 -- A text that shows a line of which P holds.
 abbrev pub Printed : List ℕ → (Line → Type 0) → Type 0
@@ -85,18 +52,12 @@ CallAnswered call line s l s' = (a : Answer) × (Answered s call a s' × (l ≡ 
 
 abbrev pub SaidAnswered : Said → (s : State) → Line → (s' : State) → Type 0
 SaidAnswered (records.settings ports accept quantum start) s l s' = SettingsAnswered (record { ports = ports; accept = accept; quantum = quantum; start = start }) s l s'
-SaidAnswered (records.begin port tag command address len width enables digits) s l s' = CallAnswered (begin_call port tag command address len width enables digits) (begin_line port tag s.now) s l s'
-SaidAnswered records.step s l s' = CallAnswered step step_line s l s'
-SaidAnswered (records.end port tag) s l s' = CallAnswered (end_call port tag) (end_line port tag) s l s'
 SaidAnswered (records.blocking port command address len width enables digits) s l s' = CallAnswered (blocking_call port command address len width enables digits) (blocking_line port command) s l s'
 SaidAnswered (records.sync port) s l s' = CallAnswered (sync port) (sync_line port) s l s'
 
 -- Enables and data have at most 256 digits.
 abbrev pub ShortDigits : Said → Type 0
 ShortDigits (records.settings ports accept quantum start) = Unit {0}
-ShortDigits (records.begin port tag command address len width enables digits) = (length enables ≤ 256) × (length digits ≤ 256)
-ShortDigits records.step = Unit {0}
-ShortDigits (records.end port tag) = Unit {0}
 ShortDigits (records.blocking port command address len width enables digits) = (length enables ≤ 256) × (length digits ≤ 256)
 ShortDigits (records.sync port) = Unit {0}
 

@@ -1,4 +1,3 @@
-pub mod Interconnect
 pub mod Start
 pub mod Answers
 pub mod Streams

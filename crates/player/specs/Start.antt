@@ -1,10 +1,17 @@
 -- What a player starts from.
+use Rattle.std.specs.Prelude.{replicate}
+use Rattle.bus.specs.Map.{AddressMap}
+use Rattle.devices.specs.Contents.{memory_map}
+use Rattle.devices.specs.declared.scratchpad.Scratchpad.{Scratchpad}
 use Rattle.protocol.specs.Settings.{Asked}
-use Rattle.protocol.specs.States.{State}
-use Rattle.protocol.specs.States.{fresh}
+use Rattle.protocol.specs.Runs.{State}
+use Rattle.protocol.specs.Rules.{fresh}
 use Rattle.platform.specs.States.{state}
-use Rattle.player.specs.Interconnect.{map_of, meter_of, start_map}
-use Rattle.player.specs.declared.machine.Machine.{Machine}
+use Rattle.platform.specs.declared.platform.Platform.{Platform}
+
+-- The interconnect is one scratchpad, all zeros.
+abbrev pub start_map : AddressMap
+start_map = memory_map (replicate 4096 0)
 
 -- The settings of a script whose first line sets no others.
 abbrev pub usual : Asked
@@ -13,5 +20,5 @@ usual = record { ports = 2; accept = 10; quantum = 1000; start = 0 }
 abbrev pub start_state : State
 start_state = fresh usual start_map 0
 
-unfoldable pub state_of : Machine → State
-state_of m = state map_of meter_of m.platform
+abbrev pub state_of : Platform Scratchpad → State
+state_of p = state (λ s. memory_map s.bytes) (λ s. s.meter.spent) p

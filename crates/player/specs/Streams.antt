@@ -1,6 +1,6 @@
 -- The answers to a stream of bytes.
 use Rattle.std.specs.Prelude.{◌≡◌, ℕ, ◌+◌, ◌-◌, ◌^◌, min, cond, List, [], ◌∷◌, ◌++◌, length, Some, None, Option, ◌==◌}
-use Rattle.protocol.specs.States.{State}
+use Rattle.protocol.specs.Runs.{State}
 use Rattle.lines.specs.Lines.{Held, held_of, whole_lines, last_part, first_end}
 use Rattle.lines.specs.Buffers.{held}
 use Rattle.response.specs.Lines.{Line, shown}
@@ -25,7 +25,7 @@ pub record Heard (bytes out : List ℕ) (h : Held) (number : ℕ) (s : State) : 
   pub answers : Played (whole_lines bytes) out s
 
 abbrev pub HeardBy : (bytes out : List ℕ) → Player → Type 0
-HeardBy bytes out p = Heard bytes out (held p.line) p.number (state_of p.machine)
+HeardBy bytes out p = Heard bytes out (held p.line) p.number (state_of p.platform)
 
 -- How many bytes a player takes at once: up to the first LF, or all.
 abbrev pub used_at : List ℕ → Option ℕ → ℕ

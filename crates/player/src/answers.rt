@@ -6,12 +6,11 @@ ghost use Rattle.script.specs.Records.{said};
 ghost use Rattle.player.specs.Start.{state_of};
 ghost use Rattle.player.specs.Answers.{Printed, CallAnswered, SaidAnswered, ReadAnswered, blocking_call, blocking_line, said_of, read_of, ShortDigits};
 
-use crate::begins::answer_begin;
 use crate::blocking::{block, decoded};
-use crate::calls::{deliver, set_up, synchronize};
-use crate::ends::answer_end;
-use crate::machine::Machine;
+use crate::calls::{set_up, synchronize};
+use crate::interconnect::Interconnect;
 use bus::Fields;
+use platform::Platform;
 use response::{Response, Text};
 use script::{PlayerFault, Record, parse};
 
@@ -28,7 +27,7 @@ fn read_line(line: Option<&[u8]>, first: bool) -> Result<Record<'_>, PlayerFault
 
 // A K line.
 fn answer_blocking(
-    machine: &mut Machine,
+    platform: &mut Platform<Interconnect>,
     port: u64,
     command: u8,
     address: u32,
@@ -39,7 +38,7 @@ fn answer_blocking(
     out: &mut Text,
 )
     requires { (length enables.now ≤ 256) × (length digits.now ≤ 256) }
-    ensures { Printed (text out.new) (λ l. CallAnswered (blocking_call port command address size width enables.now digits.now) (blocking_line port command) (state_of machine.old) l (state_of machine.new)) }
+    ensures { Printed (text out.new) (λ l. CallAnswered (blocking_call port command address size width enables.now digits.now) (blocking_line port command) (state_of platform.old) l (state_of platform.new)) }
 {
     let (bytes, count) = decoded(enables);
     let fields = Fields {
@@ -49,12 +48,12 @@ fn answer_blocking(
         width,
         enables: &bytes[0..count],
     };
-    block(machine, port, fields, digits, out);
+    block(platform, port, fields, digits, out);
 }
 
-fn answer_record(machine: &mut Machine, record: Record<'_>, out: &mut Text)
+fn answer_record(platform: &mut Platform<Interconnect>, record: Record<'_>, out: &mut Text)
     requires { ShortDigits (said «record») }
-    ensures { Printed (text out.new) (λ l. SaidAnswered (said «record».entry) (state_of machine.old) l (state_of machine.new)) }
+    ensures { Printed (text out.new) (λ l. SaidAnswered (said «record».entry) (state_of platform.old) l (state_of platform.new)) }
 {
     match record {
         Record::Settings {
@@ -62,22 +61,7 @@ fn answer_record(machine: &mut Machine, record: Record<'_>, out: &mut Text)
             accept,
             quantum,
             start,
-        } => set_up(machine, ports, accept, quantum, start).print(out),
-        Record::Begin {
-            port,
-            tag,
-            command,
-            address,
-            length,
-            width,
-            enables,
-            data,
-        } => answer_begin(
-            machine, port, tag, command, address, length, width, enables, data,
-        )
-        .print(out),
-        Record::Step => deliver(machine).print(out),
-        Record::End { port, tag } => answer_end(machine, port, tag, out),
+        } => set_up(platform, ports, accept, quantum, start).print(out),
         Record::Blocking {
             port,
             command,
@@ -87,9 +71,9 @@ fn answer_record(machine: &mut Machine, record: Record<'_>, out: &mut Text)
             enables,
             data,
         } => answer_blocking(
-            machine, port, command, address, length, width, enables, data, out,
+            platform, port, command, address, length, width, enables, data, out,
         ),
-        Record::Sync { port } => synchronize(machine, port).print(out),
+        Record::Sync { port } => synchronize(platform, port).print(out),
     }
 }
 
@@ -100,11 +84,16 @@ fn report(line: u64, fault: PlayerFault) -> Response<'static>
 }
 
 // Answers the line of that number.
-pub(crate) fn answer_line(machine: &mut Machine, number: u64, line: Option<&[u8]>, out: &mut Text)
-    ensures { Printed (text out.new) (λ l. ReadAnswered number (read_of (number == 1) (option_map (λ x. x.now) line.entry)) (state_of machine.old) l (state_of machine.new)) }
+pub(crate) fn answer_line(
+    platform: &mut Platform<Interconnect>,
+    number: u64,
+    line: Option<&[u8]>,
+    out: &mut Text,
+)
+    ensures { Printed (text out.new) (λ l. ReadAnswered number (read_of (number == 1) (option_map (λ x. x.now) line.entry)) (state_of platform.old) l (state_of platform.new)) }
 {
     match read_line(line, number == 1) {
-        Ok(record) => answer_record(machine, record, out),
+        Ok(record) => answer_record(platform, record, out),
         Err(fault) => report(number, fault).print(out),
     }
 }

@@ -2,7 +2,7 @@ ghost use Rattle.std.specs.Prelude.{◌≡◌, ℕ, ◌≤◌, min, ◌&&◌, �
 ghost use Rattle.std.specs.Option.{option_map};
 ghost use Rattle.bus.specs.Numbers.{is_okay};
 ghost use Rattle.bus.specs.Payload.{raw};
-ghost use Rattle.protocol.specs.Calls.{blocking};
+ghost use Rattle.protocol.specs.Runs.{blocking};
 ghost use Rattle.platform.specs.States.{blocking_answer};
 ghost use Rattle.response.specs.Lines.{seen, shown};
 ghost use Rattle.response.specs.Texts.{text};
@@ -10,9 +10,9 @@ ghost use Rattle.script.specs.Forms.{bytes_of};
 ghost use Rattle.player.specs.Start.{state_of};
 ghost use Rattle.player.specs.Answers.{CallAnswered, blocking_call, blocking_line, buffer_for, buffer_size, Printed};
 
-use crate::machine::Machine;
+use crate::interconnect::Interconnect;
 use bus::{Fields, Refusal, Status};
-use platform::Blocked;
+use platform::{Blocked, Platform};
 use response::{Response, Text};
 use script::decode;
 
@@ -78,25 +78,31 @@ fn gather(command: u8, count: u64, digits: &[u8]) -> ([u8; 128], usize)
 }
 
 // Makes the call and writes its answer.
-fn call(machine: &mut Machine, port: u64, fields: Fields<'_>, buffer: &mut [u8], out: &mut Text)
+fn call(
+    platform: &mut Platform<Interconnect>,
+    port: u64,
+    fields: Fields<'_>,
+    buffer: &mut [u8],
+    out: &mut Text,
+)
     requires { (fields.command ≢ 1) → length buffer.old ≤ 64 }
-    ensures { Printed (text out.new) (λ l. CallAnswered (blocking port (raw fields.entry) buffer.old) (blocking_line port fields.entry.command) (state_of machine.old) l (state_of machine.new)) }
+    ensures { Printed (text out.new) (λ l. CallAnswered (blocking port (raw fields.entry) buffer.old) (blocking_line port fields.entry.command) (state_of platform.old) l (state_of platform.new)) }
 {
-    let answer = machine.blocking(port, fields, buffer);
+    let answer = platform.blocking(port, fields, buffer);
     respond(port, fields.command, answer, buffer).print(out);
 }
 
 // A K line, its enables and its data as digits.
 pub(crate) fn block(
-    machine: &mut Machine,
+    platform: &mut Platform<Interconnect>,
     port: u64,
     fields: Fields<'_>,
     digits: &[u8],
     out: &mut Text,
 )
     requires { length digits.now ≤ 256 }
-    ensures { Printed (text out.new) (λ l. CallAnswered (blocking port (raw fields.entry) (buffer_for fields.entry.command fields.entry.length (bytes_of digits.now))) (blocking_line port fields.entry.command) (state_of machine.old) l (state_of machine.new)) }
+    ensures { Printed (text out.new) (λ l. CallAnswered (blocking port (raw fields.entry) (buffer_for fields.entry.command fields.entry.length (bytes_of digits.now))) (blocking_line port fields.entry.command) (state_of platform.old) l (state_of platform.new)) }
 {
     let (mut bytes, size) = gather(fields.command, fields.length, digits);
-    call(machine, port, fields, &mut bytes[0..size], out);
+    call(platform, port, fields, &mut bytes[0..size], out);
 }

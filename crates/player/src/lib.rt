@@ -1,10 +1,7 @@
 mod answers;
-mod begins;
 mod blocking;
 mod calls;
-mod ends;
 mod interconnect;
-mod machine;
 mod player;
 mod streaming;
 

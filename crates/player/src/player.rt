@@ -1,10 +1,11 @@
-use crate::machine::Machine;
+use crate::interconnect::Interconnect;
 use lines::LineBuffer;
+use platform::Platform;
 
 // Plays a script: one line in, one answer out. It keeps the unfinished line and the number of that line.
 #[derive(Drop)]
 pub struct Player {
-    pub(crate) machine: Machine,
+    pub(crate) platform: Platform<Interconnect>,
     pub(crate) line: LineBuffer,
     pub(crate) number: u64,
 }

@@ -1,4 +1,4 @@
-ghost use Rattle.std.specs.Prelude.{◌≡◌, ℕ, ◌+◌, ◌-◌, ◌^◌, ◌<◌, ◌≤◌, min, true, false, not, List, [], ◌++◌, length, take, is_some, IfOk, if◌then◌else◌};
+ghost use Rattle.std.specs.Prelude.{◌≡◌, ℕ, ◌+◌, ◌-◌, ◌^◌, ◌<◌, ◌≤◌, min, true, false, not, List, [], ◌++◌, length, take, is_some, if◌then◌else◌};
 ghost use Rattle.lines.specs.Buffers.{held};
 ghost use Rattle.lines.specs.Lines.{kept, grown_by, none_held, first_end};
 ghost use Rattle.response.specs.Texts.{text};
@@ -8,12 +8,12 @@ ghost use Rattle.player.specs.Answers.{Printed, LineAnswered};
 ghost use Rattle.player.specs.Streams.{HeardBy, Played, lines_of, used_of};
 
 use crate::answers::answer_line;
-use crate::machine::Machine;
+use crate::interconnect::interconnect;
 use crate::player::{Player, Taken};
 use lines::{LineBuffer, first_line_end};
+use platform::Platform;
 use protocol::Settings;
 use response::Text;
-use std::alloc::{AllocError, Global};
 
 // The settings of a script whose first line sets no others.
 fn usual_settings() -> Settings
@@ -29,23 +29,23 @@ fn usual_settings() -> Settings
 
 impl Player {
     // A player that has heard nothing.
-    pub fn new(heap: Global) -> Result<Player, AllocError>
-        ensures { IfOk result (λ p. HeardBy [] [] p) }
+    pub fn new() -> Player
+        ensures { HeardBy [] [] result }
     {
-        Ok(Player {
-            machine: Machine::new(heap, usual_settings())?,
+        Player {
+            platform: Platform::new(usual_settings(), interconnect()),
             line: LineBuffer::new(),
             number: 1,
-        })
+        }
     }
 
     // Answers the line at hand and makes room for the next.
     fn answer(&mut self, out: &mut Text)
-        ensures answer { Printed (text out.new) (λ l. LineAnswered self.old.number (held self.old.line) (state_of self.old.machine) l (state_of self.new.machine)) }
+        ensures answer { Printed (text out.new) (λ l. LineAnswered self.old.number (held self.old.line) (state_of self.old.platform) l (state_of self.new.platform)) }
         ensures number { self.new.number ≡ min (self.old.number + 1) (2 ^ 64 - 1) }
         ensures line { held self.new.line ≡ kept [] }
     {
-        answer_line(&mut self.machine, self.number, self.line.line(), out);
+        answer_line(&mut self.platform, self.number, self.line.line(), out);
         self.line.clear();
         self.number = self.number.saturating_add(1);
     }
@@ -55,7 +55,7 @@ impl Player {
         ensures taken { result ≡ record { used = length part.now; answered = false } }
         ensures line { held self.new.line ≡ grown_by (held self.old.line) part.now }
         ensures number { self.new.number ≡ self.old.number }
-        ensures machine { self.new.machine ≡ self.old.machine }
+        ensures platform { self.new.platform ≡ self.old.platform }
     {
         self.line.add(part);
         Taken {
@@ -68,7 +68,7 @@ impl Player {
     fn end_line(&mut self, part: &[u8], out: &mut Text) -> Taken
         requires { length part.now + 1 < 2 ^ 64 }
         ensures taken { result ≡ record { used = length part.now + 1; answered = true } }
-        ensures answer { Printed (text out.new) (λ l. LineAnswered self.old.number (grown_by (held self.old.line) part.now) (state_of self.old.machine) l (state_of self.new.machine)) }
+        ensures answer { Printed (text out.new) (λ l. LineAnswered self.old.number (grown_by (held self.old.line) part.now) (state_of self.old.platform) l (state_of self.new.platform)) }
         ensures number { self.new.number ≡ min (self.old.number + 1) (2 ^ 64 - 1) }
         ensures line { held self.new.line ≡ kept [] }
     {
@@ -107,7 +107,7 @@ impl Player {
     pub fn finish(&mut self, out: &mut Text) -> bool
         ensures answered { result ≡ not (none_held (held self.old.line)) }
         ensures silent { result ≡ false → (out.new ≡ out.old) × (self.new ≡ self.old) }
-        ensures played { (before said : List ℕ) → HeardBy before said self.old → Played (lines_of before) (said ++ (if result then text out.new else [])) (state_of self.new.machine) }
+        ensures played { (before said : List ℕ) → HeardBy before said self.old → Played (lines_of before) (said ++ (if result then text out.new else [])) (state_of self.new.platform) }
     {
         if !self.is_waiting() {
             return false;

@@ -1,4 +1,4 @@
--- What serving a payload comes to on the platform: its delay is short, and a blocking call that it serves keeps its rule.
+-- What follows where no check of a blocking call fails.
 use Rattle.std.proofs.Common.{◌≡◌, ℕ, ◌+◌, ◌-◌, ◌*◌, ◌/◌, ◌%◌, ◌^◌, ◌<◌, ◌≤◌, Bool, true, false, not, eqb, ltb, leb, List, length, get_or, set, Some, None, MatchBool, Option, sym, refl, ap, ◌∙◌, subst, ⊎_elim, mul-le-mul_left, arith}
 use Rattle.std.proofs.lemmas.Bool.{ltb-false, leb-false, eqb-true, not-false, eq-eqb, cases_eq, cases_lt}
 use Rattle.std.proofs.lemmas.List.{get_or-set_same, get_or-set_other, set_past}
@@ -13,9 +13,30 @@ use Rattle.bus.specs.declared.kinds.Status.{Status}
 use Rattle.bus.specs.declared.kinds.Status.TheVariants.{Okay, AddressError, CommandError, GenericError}
 use Rattle.bus.specs.declared.kinds.Refusal.{Refusal}
 use Rattle.bus.specs.declared.kinds.Outcome.{Outcome}
-use Rattle.protocol.specs.Calls.{Answer, served}
-use Rattle.protocol.specs.States.{State, start_of, with_local, over}
-use Rattle.protocol.specs.Rules.{blocking_refusal, Blocked, Timed, Unless}
+use Rattle.protocol.specs.Runs.{State, Answer, served}
+use Rattle.protocol.specs.Rules.{start_of, or_else, blocking_refusal, Blocked, Unless}
+
+passed : (b : Bool) (r : Refusal) (rest : Option Refusal) → first b r rest ≡ None → (b ≡ false) × (rest ≡ None)
+passed true r rest e = let z : ◌≡◌ {A = ℕ} 0 1 = cc in absurd (omega arith)
+passed false r rest e = (refl, e)
+
+neither : (o rest : Option Refusal) → or_else o rest ≡ None → (o ≡ None) × (rest ≡ None)
+neither None rest e = (refl, e)
+neither (Some r) rest e = let z : ◌≡◌ {A = ℕ} 0 1 = cc in absurd (omega arith)
+
+pub record Admitted (s : State) (port : ℕ) (f : Raw) (size : ℕ) : Type 0 where
+  pub known : port < s.ports
+  pub made : ill_made f ≡ None
+  pub whole : size ≡ f.length
+  pub early : start_of s port ≤ 2 ^ 40
+
+pub admitted : (s : State) (port : ℕ) (f : Raw) (size : ℕ) → blocking_refusal s port f size ≡ None → Admitted s port f size
+admitted s port f size none =
+    let a = passed (leb s.ports port) _ _ none in
+    let b = neither (ill_made f) _ a.1 in
+    let c = passed (not (eqb size f.length)) _ _ b.1 in
+    let d = passed (ltb (2 ^ 40) (start_of s port)) _ _ c.1 in
+    record { known = leb-false s.ports port a.0; made = b.0; whole = eqb-true size f.length (not-false (eqb size f.length) c.0); early = ltb-false (2 ^ 40) (start_of s port) d.0 }
 
 if_few : (s : Status) (n : ℕ) → n ≤ 64 → if_okay s n 0 ≤ 64
 if_few Okay n le = le
@@ -23,7 +44,7 @@ if_few AddressError n le = omega arith
 if_few CommandError n le = omega arith
 if_few GenericError n le = omega arith
 
-pub few_served : (p : Access) (m : AddressMap) → 1 ≤ p.length → p.length ≤ 64 → beats_served p m ≤ 64
+few_served : (p : Access) (m : AddressMap) → 1 ≤ p.length → p.length ≤ 64 → beats_served p m ≤ 64
 few_served p m some most =
     let few : (p.length - 1) / p.width + 1 ≤ 64 = let a = few_beats p.length p.width some in omega arith in
     let each : if_okay (judged_access m p) ((p.length - 1) / p.width + 1) 0 ≤ 64 = if_few (judged_access m p) ((p.length - 1) / p.width + 1) few in
@@ -39,10 +60,10 @@ set_within xs i v most each le k =
     (λ other. let e : get_or (set xs i v) k 0 ≡ get_or xs k 0 = get_or-set_other xs i k v 0 other in let h = each k in omega arith)
     (cases_eq k i)
 
--- A payload that is served, by a target whose own state is sound or not.
-module _ (sound : Type 0) (s : State) (port : ℕ) (p : Access) (buffer : List ℕ) (long : length buffer ≡ p.length) (r : Outcome) (after : List ℕ) (m' : AddressMap) (t' : ℕ) (serves : Serves sound s.map s.meter p buffer r after m' t') where
-  pub served_as : ServedAs sound s.map s.meter p buffer r after m' t'
-  served_as = when_true (ServedAs sound s.map s.meter p buffer r after m' t') (Unserved s.map s.meter buffer r after m' t') (eq-eqb (length buffer) p.length long) serves
+-- A payload that is served.
+module _ (s : State) (port : ℕ) (p : Access) (buffer : List ℕ) (long : length buffer ≡ p.length) (r : Outcome) (after : List ℕ) (m' : AddressMap) (t' : ℕ) (serves : Serves s.map s.meter p buffer r after m' t') where
+  served_as : ServedAs s.map s.meter p buffer r after m' t'
+  served_as = when_true (ServedAs s.map s.meter p buffer r after m' t') (Unserved s.map s.meter buffer r after m' t') (eq-eqb (length buffer) p.length long) serves
 
   pub short_delay : 1 ≤ p.length → p.length ≤ 64 → r.delay ≤ 64000000
   short_delay some most =
@@ -50,22 +71,15 @@ module _ (sound : Type 0) (s : State) (port : ℕ) (p : Access) (buffer : List �
       let a : 1000000 * beats_served p s.map ≤ 1000000 * 64 = mul-le-mul_left 1000000 few in
       omega (arith, a, served_as.only_the_delay_is_free)
 
-  -- The growth of the meter, told of the states before and after.
-  pub timed : (s' : State) → s'.meter ≡ t' → Timed p s s' r.delay
-  timed s' meter =
-      record {
-        meter_grows_by_the_delay = subst (λ x. MatchBool (eqb (beats_served p s.map) 0) (x ≡ s.meter) (x ≡ (s.meter + r.delay) % 2 ^ 64)) (sym meter) served_as.meter_grows_by_the_delay;
-        only_the_delay_is_free = served_as.only_the_delay_is_free;
-      }
-
-  pub blocked : sound → (local : ℕ) → local ≡ start_of s port + r.delay → (status : Status) → status ≡ r.status → (s' : State) → s' ≡ with_local port local (over m' t' s) → Blocked s port p buffer (served local status after) s'
-  blocked so local sum status is s' new =
+  pub blocked : (local : ℕ) → local ≡ start_of s port + r.delay → (status : Status) → status ≡ r.status → (s' : State) → s' ≡ record { ports = s.ports; accept = s.accept; quantum = s.quantum; now = s.now; locals = set s.locals port local; map = m'; meter = t' } → Blocked s port p buffer (served local status after) s'
+  blocked local sum status is s' new =
       let meter : s'.meter ≡ t' = ap (λ x. x.meter) new in
       record {
         delay = r.delay;
-        answer = (λ u. served (sum u) ((is ∙ served_as.status) u) (served_as.bytes so u));
-        after = new ∙ (λ u. with_local port (sum u) (over (served_as.map_after u) (sym meter u) s));
-        timed = timed s' meter;
+        answer = (λ u. served (sum u) ((is ∙ served_as.status) u) (served_as.bytes u));
+        after = new ∙ (λ u. record { ports = s.ports; accept = s.accept; quantum = s.quantum; now = s.now; locals = set s.locals port (sum u); map = served_as.map_after u; meter = sym meter u });
+        meter_grows_by_the_delay = subst (λ x. MatchBool (eqb (beats_served p s.map) 0) (x ≡ s.meter) (x ≡ (s.meter + r.delay) % 2 ^ 64)) (sym meter) served_as.meter_grows_by_the_delay;
+        only_the_delay_is_free = served_as.only_the_delay_is_free;
       }
 
 -- A call that no check refuses is accepted.

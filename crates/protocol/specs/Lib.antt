@@ -1,9 +1,3 @@
 pub mod Settings
-pub mod Numbers
-pub mod Calls
-pub mod States
-pub mod Rules
 pub mod Runs
-pub mod Model
-pub mod Law
-pub mod Timely
+pub mod Rules

@@ -1,7 +1,4 @@
-mod events;
 mod making;
-mod numbers;
 mod settings;
 
-pub use events::{Event, EventKind, Progress};
 pub use settings::Settings;

@@ -6,7 +6,7 @@ use Rattle.bus.specs.Numbers.{status_number, refusal_number}
 use Rattle.bus.specs.declared.kinds.Status.{Status}
 use Rattle.bus.specs.declared.kinds.Status.TheVariants.{Okay, AddressError, CommandError, GenericError}
 use Rattle.script.specs.Faults.{field_of, cause_of}
-use Rattle.response.specs.Lines.{Line, set_line, req_line, end_req_line, begin_resp_line, idle_line, end_resp_line, done_line, sync_line, no_line, bad_line, shown, data_shown, ShortData, Short, Fitting}
+use Rattle.response.specs.Lines.{Line, set_line, done_line, sync_line, no_line, bad_line, shown, data_shown, ShortData, Short, Fitting}
 use Rattle.response.specs.Texts.{hex_digits}
 
 length_hex : (bytes : List ℕ) → length (hex_digits bytes) ≡ 2 * length bytes
@@ -28,30 +28,6 @@ length_number n h = length-decimal-le 20 n (omega arith) (omega arith) h
 
 pub short_line : (l : Line) → Fitting l → Short l → length (shown l) ≤ 256
 short_line set_line f h = omega arith
-short_line (req_line port tag time) f h =
-    let a = length_number port f.0 in
-    let b = length_number tag f.1 in
-    let c = length_number time f.2 in
-    simp length-append (omega arith)
-short_line (end_req_line port tag time) f h =
-    let a = length_number port f.0 in
-    let b = length_number tag f.1 in
-    let c = length_number time f.2 in
-    simp length-append (omega arith)
-short_line (begin_resp_line port tag time) f h =
-    let a = length_number port f.0 in
-    let b = length_number tag f.1 in
-    let c = length_number time f.2 in
-    simp length-append (omega arith)
-short_line (idle_line time) f h =
-    let a = length_number time f in
-    simp length-append (omega arith)
-short_line (end_resp_line port tag status bytes) f h =
-    let a = length_number port f.0 in
-    let b = length_number tag f.1 in
-    let c = length_status status in
-    let d = length_data bytes h in
-    simp length-append (omega arith)
 short_line (done_line port local status bytes) f h =
     let a = length_number port f.0 in
     let b = length_number local f.1 in

@@ -17,17 +17,6 @@ number_more a a' ns whole i lt e h =
     ∙ sym (at_drop_more (λ l. written a (after_tabs (map decimal l))) ns i 0 lt)
     ∙ h
 
-fields_more : (a : List ℕ) (fs gs : List (List ℕ)) → written (written a (after_tabs fs)) (after_tabs gs) ≡ written a (after_tabs (fs ++ gs))
-fields_more a [] gs = refl
-fields_more a (f ∷ fs) gs = fields_more (onto (onto a tab) f) fs gs
-
--- a' is a with the first fields written, a'' is a' with the next one, whole with the last one
-pub two_more : (a a' a'' whole f g h : List ℕ) (fs : List (List ℕ)) → a' ≡ written a (pieces f fs) → a'' ≡ written a' (tab ∷ g ∷ []) → whole ≡ written a'' (tab ∷ h ∷ []) → whole ≡ written a (pieces f (fs ++ (g ∷ h ∷ [])))
-two_more a a' a'' whole f g h fs e e' e'' =
-    e''
-    ∙ ap (λ t. written t (tab ∷ h ∷ [])) (e' ∙ ap (λ t. written t (tab ∷ g ∷ [])) e)
-    ∙ fields_more (onto a f) fs (g ∷ h ∷ [])
-
 -- the pieces of a line, and LF, are the line
 pub line_whole : (a f : List ℕ) (fs : List (List ℕ)) → onto (written a (pieces f fs)) line_feed ≡ onto a (tabbed f fs)
 line_whole a f [] = onto_onto a f line_feed

@@ -8,17 +8,12 @@ use Rattle.bus.specs.declared.kinds.Refusal.{Refusal}
 use Rattle.script.specs.Faults.{field_of, cause_of}
 use Rattle.script.specs.declared.faults.PlayerFault.{PlayerFault}
 use Rattle.response.specs.declared.response.Response.{Response}
-use Rattle.response.specs.declared.response.Response.TheVariants.{Set, Req, EndReq, BeginResp, Idle, EndResp, Done, Sync, No, Bad}
+use Rattle.response.specs.declared.response.Response.TheVariants.{Set, Done, Sync, No, Bad}
 use Rattle.response.specs.Texts.{hex_digits}
 
 -- A response, with the bytes in place of a reference to them.
 pub data Line : Type 0 where
   set_line : Line
-  req_line : ℕ → ℕ → ℕ → Line
-  end_req_line : ℕ → ℕ → ℕ → Line
-  begin_resp_line : ℕ → ℕ → ℕ → Line
-  idle_line : ℕ → Line
-  end_resp_line : ℕ → ℕ → Status → Option (List ℕ) → Line
   done_line : ℕ → ℕ → Status → Option (List ℕ) → Line
   sync_line : ℕ → ℕ → Line
   no_line : Refusal → Line
@@ -26,11 +21,6 @@ pub data Line : Type 0 where
 
 abbrev pub seen : Response → Line
 seen Set = set_line
-seen (Req port tag time) = req_line port tag time
-seen (EndReq port tag time) = end_req_line port tag time
-seen (BeginResp port tag time) = begin_resp_line port tag time
-seen (Idle time) = idle_line time
-seen (EndResp port tag status bytes) = end_resp_line port tag status (option_map (λ s. s.now) bytes)
 seen (Done port local status bytes) = done_line port local status (option_map (λ s. s.now) bytes)
 seen (Sync port time) = sync_line port time
 seen (No refusal) = no_line refusal
@@ -42,11 +32,6 @@ data_shown (Some bytes) = hex_digits bytes
 
 abbrev pub word : Line → List ℕ
 word set_line = codes "SET"
-word (req_line port tag time) = codes "REQ"
-word (end_req_line port tag time) = codes "END_REQ"
-word (begin_resp_line port tag time) = codes "BEGIN_RESP"
-word (idle_line time) = codes "IDLE"
-word (end_resp_line port tag status bytes) = codes "END_RESP"
 word (done_line port local status bytes) = codes "DONE"
 word (sync_line port time) = codes "SYNC"
 word (no_line refusal) = codes "NO"
@@ -54,11 +39,6 @@ word (bad_line number fault) = codes "BAD"
 
 abbrev pub fields : Line → List (List ℕ)
 fields set_line = []
-fields (req_line port tag time) = decimal port ∷ decimal tag ∷ decimal time ∷ []
-fields (end_req_line port tag time) = decimal port ∷ decimal tag ∷ decimal time ∷ []
-fields (begin_resp_line port tag time) = decimal port ∷ decimal tag ∷ decimal time ∷ []
-fields (idle_line time) = decimal time ∷ []
-fields (end_resp_line port tag status bytes) = decimal port ∷ decimal tag ∷ signed_decimal (status_number status) ∷ data_shown bytes ∷ []
 fields (done_line port local status bytes) = decimal port ∷ decimal local ∷ signed_decimal (status_number status) ∷ data_shown bytes ∷ []
 fields (sync_line port time) = decimal port ∷ decimal time ∷ []
 fields (no_line refusal) = decimal (refusal_number refusal) ∷ []
@@ -92,11 +72,6 @@ parts l = pieces (word l) (fields l)
 -- the numbers that the code passes on have at most 64 bits
 abbrev pub Fitting : Line → Type 0
 Fitting set_line = Unit {0}
-Fitting (req_line port tag time) = (port < 2 ^ 64) × (tag < 2 ^ 64) × (time < 2 ^ 64)
-Fitting (end_req_line port tag time) = (port < 2 ^ 64) × (tag < 2 ^ 64) × (time < 2 ^ 64)
-Fitting (begin_resp_line port tag time) = (port < 2 ^ 64) × (tag < 2 ^ 64) × (time < 2 ^ 64)
-Fitting (idle_line time) = time < 2 ^ 64
-Fitting (end_resp_line port tag status bytes) = (port < 2 ^ 64) × (tag < 2 ^ 64)
 Fitting (done_line port local status bytes) = (port < 2 ^ 64) × (local < 2 ^ 64)
 Fitting (sync_line port time) = (port < 2 ^ 64) × (time < 2 ^ 64)
 Fitting (no_line refusal) = refusal_number refusal < 2 ^ 64
@@ -109,11 +84,6 @@ ShortData (Some bytes) = length bytes ≤ 64
 
 abbrev pub Short : Line → Type 0
 Short set_line = Unit {0}
-Short (req_line port tag time) = Unit {0}
-Short (end_req_line port tag time) = Unit {0}
-Short (begin_resp_line port tag time) = Unit {0}
-Short (idle_line time) = Unit {0}
-Short (end_resp_line port tag status bytes) = ShortData bytes
 Short (done_line port local status bytes) = ShortData bytes
 Short (sync_line port time) = Unit {0}
 Short (no_line refusal) = Unit {0}

@@ -1,4 +1,4 @@
-ghost use Rattle.std.specs.Prelude.{◌≡◌, [], ◌∷◌, ◌++◌, map, decimal};
+ghost use Rattle.std.specs.Prelude.{◌≡◌, [], ◌∷◌, map, decimal};
 ghost use Rattle.std.specs.Option.{option_map};
 ghost use Rattle.std.specs.Fmt.{signed_decimal};
 ghost use Rattle.bus.specs.Numbers.{status_number};
@@ -33,7 +33,7 @@ pub(crate) fn start_line(out: &mut Text, word: &[u8], numbers: &[u64])
 }
 
 // A TAB and the status's number.
-fn status_field(out: &mut Text, status: Status)
+pub(crate) fn status_field(out: &mut Text, status: Status)
     ensures { text out.new ≡ written (text out.old) (tab ∷ signed_decimal (status_number status) ∷ []) }
 {
     start_field(out);
@@ -41,7 +41,7 @@ fn status_field(out: &mut Text, status: Status)
 }
 
 // A TAB and the data, in hexadecimal, or `-` where there is none.
-fn data_field(out: &mut Text, data: Option<&[u8]>)
+pub(crate) fn data_field(out: &mut Text, data: Option<&[u8]>)
     ensures { text out.new ≡ written (text out.old) (tab ∷ data_shown (option_map (λ x. x.now) «data».entry) ∷ []) }
 {
     start_field(out);
@@ -49,19 +49,4 @@ fn data_field(out: &mut Text, data: Option<&[u8]>)
         Some(bytes) => out.push_hex(bytes),
         None => out.push(b'-'),
     }
-}
-
-// The word and the numbers, and what an access came to: its status and its data.
-pub(crate) fn outcome_line(
-    out: &mut Text,
-    word: &[u8],
-    numbers: &[u64],
-    status: Status,
-    data: Option<&[u8]>,
-)
-    ensures { text out.new ≡ written (text out.old) (pieces word.now (map decimal numbers.now ++ (signed_decimal (status_number status) ∷ data_shown (option_map (λ x. x.now) «data».entry) ∷ []))) }
-{
-    start_line(out, word, numbers);
-    status_field(out, status);
-    data_field(out, data);
 }

@@ -2,7 +2,7 @@ ghost use Rattle.std.specs.Prelude.{◌≡◌, [], take};
 ghost use Rattle.response.specs.Lines.{line_feed, seen, parts, shown, Fitting, Short};
 ghost use Rattle.response.specs.Texts.{text, onto, written};
 
-use crate::fields::{outcome_line, start_line};
+use crate::fields::{data_field, start_line, status_field};
 use crate::text::Text;
 use bus::{Refusal, Status};
 use script::PlayerFault;
@@ -11,30 +11,6 @@ use script::PlayerFault;
 #[derive(Clone, Copy)]
 pub enum Response<'a> {
     Set,
-    Req {
-        port: u64,
-        tag: u64,
-        now: u64,
-    },
-    EndReq {
-        port: u64,
-        tag: u64,
-        now: u64,
-    },
-    BeginResp {
-        port: u64,
-        tag: u64,
-        now: u64,
-    },
-    Idle {
-        now: u64,
-    },
-    EndResp {
-        port: u64,
-        tag: u64,
-        status: Status,
-        data: Option<&'a [u8]>,
-    },
     Done {
         port: u64,
         local: u64,
@@ -59,24 +35,16 @@ impl Response<'_> {
     {
         match self {
             Response::Set => start_line(out, b"SET", &[]),
-            Response::Req { port, tag, now } => start_line(out, b"REQ", &[port, tag, now]),
-            Response::EndReq { port, tag, now } => start_line(out, b"END_REQ", &[port, tag, now]),
-            Response::BeginResp { port, tag, now } => {
-                start_line(out, b"BEGIN_RESP", &[port, tag, now]);
-            }
-            Response::Idle { now } => start_line(out, b"IDLE", &[now]),
-            Response::EndResp {
-                port,
-                tag,
-                status,
-                data,
-            } => outcome_line(out, b"END_RESP", &[port, tag], status, data),
             Response::Done {
                 port,
                 local,
                 status,
                 data,
-            } => outcome_line(out, b"DONE", &[port, local], status, data),
+            } => {
+                start_line(out, b"DONE", &[port, local]);
+                status_field(out, status);
+                data_field(out, data);
+            }
             Response::Sync { port, now } => start_line(out, b"SYNC", &[port, now]),
             Response::No(refusal) => start_line(out, b"NO", &[u64::from(refusal.number())]),
             Response::Bad { line, fault } => {

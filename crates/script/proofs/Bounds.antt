@@ -3,15 +3,12 @@ use Rattle.std.proofs.Common.{◌≡◌, ℕ, ◌≤◌, Bool, true, false, cond
 use Rattle.std.specs.Option.{ok_or}
 use Rattle.script.specs.Fields.{fields}
 use Rattle.script.specs.Forms.{hex_of}
-use Rattle.script.specs.Records.{Said, settings, begin, step, end, blocking, sync, fault_at, number_at, command_at, address_at, hex_at, counted, field_then, counted_then, settings_of, begin_of, step_of, end_of, blocking_of, sync_of, record_of, line_of, parsed}
+use Rattle.script.specs.Records.{Said, settings, blocking, sync, fault_at, number_at, command_at, address_at, hex_at, counted, field_then, counted_then, settings_of, blocking_of, sync_of, record_of, line_of, parsed}
 use Rattle.script.specs.declared.faults.FieldFault.{FieldFault}
 use Rattle.script.specs.declared.faults.RecordFault.{RecordFault}
 
 abbrev Bounded : Result Said RecordFault → Type 0
 Bounded (Ok (settings ports accept quantum start)) = Unit {0}
-Bounded (Ok (begin port tag command address len width enables digits)) = (length enables ≤ 256) × (length digits ≤ 256)
-Bounded (Ok step) = Unit {0}
-Bounded (Ok (end port tag)) = Unit {0}
 Bounded (Ok (blocking port command address len width enables digits)) = (length enables ≤ 256) × (length digits ≤ 256)
 Bounded (Ok (sync port)) = Unit {0}
 Bounded (Err e) = Unit {0}
@@ -46,25 +43,6 @@ short_settings fs =
     short_field (number_at fs 3) _ (λ start.
     record { bounds = tt })))))
 
-short_begin : (fs : List (List ℕ)) → Short (begin_of fs)
-short_begin fs =
-    short_counted (counted 8 fs) _
-    (short_field (number_at fs 0) _ (λ port.
-    short_field (number_at fs 1) _ (λ tag.
-    short_field (command_at fs 2) _ (λ command.
-    short_field (address_at fs 3) _ (λ address.
-    short_field (number_at fs 4) _ (λ len.
-    short_field (number_at fs 5) _ (λ width.
-    short_hex fs 6 _ (λ enables e.
-    short_hex fs 7 _ (λ digits d.
-    record { bounds = (e, d) })))))))))
-
-short_step : (fs : List (List ℕ)) → Short (step_of fs)
-short_step fs = short_counted (counted 0 fs) _ (record { bounds = tt })
-
-short_end : (fs : List (List ℕ)) → Short (end_of fs)
-short_end fs = short_counted (counted 2 fs) _ (short_field (number_at fs 0) _ (λ port. short_field (number_at fs 1) _ (λ tag. record { bounds = tt })))
-
 short_blocking : (fs : List (List ℕ)) → Short (blocking_of fs)
 short_blocking fs =
     short_counted (counted 7 fs) _
@@ -87,22 +65,13 @@ short_either false x y hx hy = hy
 short_record : (first : Bool) (letter : ℕ) (fs : List (List ℕ)) → Short (record_of first letter fs)
 short_record first letter fs =
     short_either (first && eqb letter 80) _ _ (short_settings fs)
-    (short_either (eqb letter 66) _ _ (short_begin fs)
-    (short_either (eqb letter 83) _ _ (short_step fs)
-    (short_either (eqb letter 69) _ _ (short_end fs)
     (short_either (eqb letter 75) _ _ (short_blocking fs)
     (short_either (eqb letter 89) _ _ (short_sync fs)
-    (record { bounds = tt }))))))
+    (record { bounds = tt })))
 
 short_line : (first : Bool) (fs : List (List ℕ)) → Short (line_of first fs)
 short_line first [] = record { bounds = tt }
 short_line first (letter ∷ fs) = short_either (eqb (length letter) 1) _ _ (short_record first (get_or letter 0 0) fs) (record { bounds = tt })
-
-pub begin_digits_bounded :
-    (first : Bool) (line : List ℕ) (port tag command address len width : ℕ) (enables digits : List ℕ)
-    → parsed first line ≡ Ok (begin port tag command address len width enables digits)
-    → (length enables ≤ 256) × (length digits ≤ 256)
-begin_digits_bounded first line port tag command address len width enables digits e = (subst Short e (short_line first (fields line))).bounds
 
 pub digits_bounded :
     (first : Bool) (line : List ℕ) (port command address len width : ℕ) (enables digits : List ℕ)

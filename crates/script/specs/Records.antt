@@ -8,22 +8,16 @@ use Rattle.script.specs.declared.faults.FieldFault.{FieldFault}
 use Rattle.script.specs.declared.faults.RecordFault.{RecordFault}
 use Rattle.script.specs.declared.faults.RecordFault.TheVariants.{UnknownLetter, Missing, Surplus, Field}
 use Rattle.script.specs.declared.records.Record.{Record}
-use Rattle.script.specs.declared.records.Record.TheVariants.{Settings, Begin, Step, End, Blocking, Sync}
+use Rattle.script.specs.declared.records.Record.TheVariants.{Settings, Blocking, Sync}
 
 -- A record without references.
 pub data Said : Type 0 where
   settings : (ports accept quantum start : ℕ) → Said
-  begin : (port tag command address length width : ℕ) → (enables digits : List ℕ) → Said
-  step : Said
-  end : (port tag : ℕ) → Said
   blocking : (port command address length width : ℕ) → (enables digits : List ℕ) → Said
   sync : (port : ℕ) → Said
 
 abbrev pub said : Record → Said
 said (Settings ports accept quantum start) = settings ports accept quantum start
-said (Begin port tag command address len width enables digits) = begin port tag command address len width enables.now digits.now
-said Step = step
-said (End port tag) = end port tag
 said (Blocking port command address len width enables digits) = blocking port command address len width enables.now digits.now
 said (Sync port) = sync port
 
@@ -74,29 +68,6 @@ settings_of fs =
     field_then (number_at fs 3) (λ start.
     Ok (settings ports accept quantum start))))))
 
-abbrev pub begin_of : List (List ℕ) → Result Said RecordFault
-begin_of fs =
-    counted_then (counted 8 fs)
-    (field_then (number_at fs 0) (λ port.
-    field_then (number_at fs 1) (λ tag.
-    field_then (command_at fs 2) (λ command.
-    field_then (address_at fs 3) (λ address.
-    field_then (number_at fs 4) (λ len.
-    field_then (number_at fs 5) (λ width.
-    field_then (hex_at fs 6) (λ enables.
-    field_then (hex_at fs 7) (λ digits.
-    Ok (begin port tag command address len width enables digits))))))))))
-
-abbrev pub step_of : List (List ℕ) → Result Said RecordFault
-step_of fs = counted_then (counted 0 fs) (Ok step)
-
-abbrev pub end_of : List (List ℕ) → Result Said RecordFault
-end_of fs =
-    counted_then (counted 2 fs)
-    (field_then (number_at fs 0) (λ port.
-    field_then (number_at fs 1) (λ tag.
-    Ok (end port tag))))
-
 abbrev pub blocking_of : List (List ℕ) → Result Said RecordFault
 blocking_of fs =
     counted_then (counted 7 fs)
@@ -112,16 +83,13 @@ blocking_of fs =
 abbrev pub sync_of : List (List ℕ) → Result Said RecordFault
 sync_of fs = counted_then (counted 1 fs) (field_then (number_at fs 0) (λ port. Ok (sync port)))
 
--- 'P', which only the first line may say, 'B', 'S', 'E', 'K' and 'Y', with the fields after the letter.
+-- 'P', which only the first line may say, 'K' and 'Y', with the fields after the letter.
 abbrev pub record_of : Bool → ℕ → List (List ℕ) → Result Said RecordFault
 record_of first letter fs =
     cond (first && letter == 80) (settings_of fs)
-    (cond (letter == 66) (begin_of fs)
-    (cond (letter == 83) (step_of fs)
-    (cond (letter == 69) (end_of fs)
     (cond (letter == 75) (blocking_of fs)
     (cond (letter == 89) (sync_of fs)
-    (Err UnknownLetter))))))
+    (Err UnknownLetter)))
 
 -- A letter is one byte.
 abbrev pub line_of : Bool → List (List ℕ) → Result Said RecordFault

@@ -1,6 +1,6 @@
 ghost use Rattle.std.specs.Prelude.{◌≡◌, ◌<◌};
 ghost use Rattle.script.specs.Fields.{fields};
-ghost use Rattle.script.specs.Records.{meaning, number_at, address_at, command_at, hex_at, digits_in, counted, settings_of, begin_of, step_of, end_of, blocking_of, sync_of, parsed, opened};
+ghost use Rattle.script.specs.Records.{meaning, number_at, address_at, command_at, hex_at, digits_in, counted, settings_of, blocking_of, sync_of, parsed, opened};
 
 use crate::faults::{FieldFault, RecordFault};
 use crate::fields::{count_fields, field};
@@ -67,47 +67,6 @@ fn parse_settings(rest: &[u8]) -> Result<Record<'_>, RecordFault>
     })
 }
 
-fn parse_begin(rest: &[u8]) -> Result<Record<'_>, RecordFault>
-    ensures { meaning result ≡ begin_of (fields rest.now) }
-{
-    expect_fields(rest, 8)?;
-    let port = number_at(rest, 0)?;
-    let tag = number_at(rest, 1)?;
-    let command = command_at(rest, 2)?;
-    let address = address_at(rest, 3)?;
-    let length = number_at(rest, 4)?;
-    let width = number_at(rest, 5)?;
-    let enables = hex_at(rest, 6)?;
-    let data = hex_at(rest, 7)?;
-    Ok(Record::Begin {
-        port,
-        tag,
-        command,
-        address,
-        length,
-        width,
-        enables,
-        data,
-    })
-}
-
-// A tab behind S has a field behind it, which is surplus.
-fn parse_step(rest: &[u8]) -> Result<Record<'_>, RecordFault>
-    ensures { meaning result ≡ step_of (fields rest.now) }
-{
-    expect_fields(rest, 0)?;
-    Ok(Record::Step)
-}
-
-fn parse_end(rest: &[u8]) -> Result<Record<'_>, RecordFault>
-    ensures { meaning result ≡ end_of (fields rest.now) }
-{
-    expect_fields(rest, 2)?;
-    let port = number_at(rest, 0)?;
-    let tag = number_at(rest, 1)?;
-    Ok(Record::End { port, tag })
-}
-
 fn parse_blocking(rest: &[u8]) -> Result<Record<'_>, RecordFault>
     ensures { meaning result ≡ blocking_of (fields rest.now) }
 {
@@ -144,14 +103,10 @@ fn parse_line(line: &[u8], first: bool) -> Result<Record<'_>, RecordFault>
 {
     match line {
         [b'P', b'\t', rest @ ..] if first => parse_settings(rest),
-        [b'B', b'\t', rest @ ..] => parse_begin(rest),
-        [b'S', b'\t', rest @ ..] => parse_step(rest),
-        [b'E', b'\t', rest @ ..] => parse_end(rest),
         [b'K', b'\t', rest @ ..] => parse_blocking(rest),
         [b'Y', b'\t', rest @ ..] => parse_sync(rest),
         [b'P'] if first => Err(RecordFault::Missing(2)),
-        [b'S'] => Ok(Record::Step),
-        [b'B'] | [b'E'] | [b'K'] | [b'Y'] => Err(RecordFault::Missing(2)),
+        [b'K'] | [b'Y'] => Err(RecordFault::Missing(2)),
         _ => Err(RecordFault::UnknownLetter),
     }
 }

@@ -7,21 +7,6 @@ pub enum Record<'a> {
         quantum: u64,
         start: u64,
     },
-    Begin {
-        port: u64,
-        tag: u64,
-        command: u8,
-        address: u32,
-        length: u64,
-        width: u64,
-        enables: &'a [u8],
-        data: &'a [u8],
-    },
-    Step,
-    End {
-        port: u64,
-        tag: u64,
-    },
     Blocking {
         port: u64,
         command: u8,

@@ -1,24 +1,47 @@
 mod accesses;
-mod bytes;
-mod calls;
-mod eight;
-mod held;
-mod orders;
-mod payloads;
-mod platforms;
-mod refusals;
 mod show;
-mod show_calls;
-mod targets;
 
 use accesses::{BANK, BORDERS, ENDS, LINES, ROM, SPLITS};
-use cache::Cache;
-use devices::{Bank, Rom, Scratchpad};
+use devices::{Bank, Rom, Row, Scratchpad};
 use layers::{Bridge, Router};
-use platforms::show_platforms;
 use show::show_all;
 use std::io;
-use targets::{IMAGE, REGISTERS, RIGHTS, interconnect, router};
+
+const HALF: Row = Row {
+    readable: true,
+    writable: true,
+    value: 0xA0,
+    mask: 0x0F,
+};
+
+const READ_ONLY: Row = Row {
+    readable: true,
+    writable: false,
+    value: 0x33,
+    mask: 0xFF,
+};
+
+const WRITE_ONLY: Row = Row {
+    readable: false,
+    writable: true,
+    value: 0x44,
+    mask: 0xFF,
+};
+
+const FREE: Row = Row {
+    readable: true,
+    writable: true,
+    value: 0x00,
+    mask: 0xFF,
+};
+
+const RIGHTS: [Row; 3] = [HALF, READ_ONLY, WRITE_ONLY];
+
+const REGISTERS: [Row; 16] = [
+    HALF, FREE, FREE, FREE, FREE, FREE, FREE, FREE, FREE, FREE, FREE, FREE, FREE, FREE, FREE, FREE,
+];
+
+const IMAGE: [u8; 1] = [0xC3];
 
 fn devices(rt: &HostRuntime) -> io::Result<()> {
     let mut memory = Scratchpad::new(5);
@@ -41,26 +64,13 @@ fn bridges(rt: &HostRuntime) -> io::Result<()> {
 }
 
 fn routers(rt: &HostRuntime) -> io::Result<()> {
-    show_all(rt, "router", &mut router(), &BORDERS)
-}
-
-// Of the bank with three rows no line can be read as a whole, so each piece is read alone.
-fn caches(rt: &HostRuntime) -> io::Result<()> {
-    show_all(rt, "cache", &mut interconnect(), &LINES)?;
-    let mut slow = Cache::new(Scratchpad::new(5), 5000);
-    show_all(rt, "slow cache", &mut slow, &LINES[0..4])?;
-    let mut alone = Cache::new(Bank::new(&RIGHTS, 3), 1);
-    show_all(rt, "cache over a bank", &mut alone, &BANK)?;
-    let left = Cache::new(Scratchpad::new(5), 1);
-    let right = Cache::new(Bank::new(&REGISTERS, 3), 2);
-    let mut router = Router::new(left, right, 0x1000, 1);
-    show_all(rt, "router over caches", &mut router, &BORDERS)
+    let memory = Bridge::new(Scratchpad::new(5), 4, 2);
+    let mut router = Router::new(memory, Bank::new(&REGISTERS, 3), 0x1000, 1);
+    show_all(rt, "router", &mut router, &BORDERS)
 }
 
 fn main(rt: HostRuntime) -> io::Result<()> {
     devices(&rt)?;
     bridges(&rt)?;
-    routers(&rt)?;
-    caches(&rt)?;
-    show_platforms(&rt)
+    routers(&rt)
 }

@@ -1,7 +1,6 @@
 ghost use Rattle.std.specs.Prelude.{◌≡◌, ◌≤◌, min, max};
 
 use crate::accesses::Access;
-use crate::bytes::{counted, print_bytes};
 use bus::{Command, Outcome, Span, Target};
 use std::io;
 
@@ -12,6 +11,17 @@ fn marks_of(pattern: [bool; 4]) -> [bool; 64] {
         marks[i] = pattern[i % 4];
     }
     marks
+}
+
+// Data that counts up from a first byte.
+fn data_from(first: u8) -> [u8; 64] {
+    let mut bytes = [0; 64];
+    let mut next = first;
+    for i in 0..64 {
+        bytes[i] = next;
+        next = next.wrapping_add(1);
+    }
+    bytes
 }
 
 // How many bytes a span can have.
@@ -53,13 +63,16 @@ fn show_run<T: Target>(
     let outcome = run(target, command, span, buffer);
     let (status, delay, meter) = (outcome.status.number(), outcome.delay, target.meter());
     print!(rt; "{word} {start:x} {count}: {status} {delay} {meter} ")?;
-    print_bytes(rt, buffer)?;
+    for byte in buffer.iter() {
+        let byte = *byte;
+        print!(rt; "{byte:02x}")?;
+    }
     println!(rt; "")
 }
 
 fn show<T: Target>(rt: &HostRuntime, target: &mut T, access: Access) -> io::Result<()> {
     let marks = marks_of(access.pattern);
-    let mut bytes = counted(access.first);
+    let mut bytes = data_from(access.first);
     let count = within_span(access.count);
     let given = access.given.min(64);
     let span = Span {

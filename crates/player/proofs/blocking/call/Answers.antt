@@ -9,4 +9,4 @@ returns c =
     let answer = c.blocking-answer.result in
     let buffer = c.blocking-answer.new.buffer in
     let short = subst Short (sym c.respond.ensures) (line_short c.args.port c.args.fields.command answer buffer (λ other. omega (arith, c.blocking-answer.auto.buffer, c.requires other))) in
-    (seen c.respond.result, ((blocking_answer answer buffer, (c.blocking-answer.ensures, c.respond.ensures)), c.print.ensures.whole short))
+    (seen c.respond.result, ((blocking_answer answer buffer, (c.blocking-answer.ensures.rule, c.respond.ensures)), c.print.ensures.whole short))

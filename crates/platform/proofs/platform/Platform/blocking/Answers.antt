@@ -1,5 +1,19 @@
-use Rattle.platform.proofs.Runs.{leads_on}
+use Rattle.std.proofs.Common.{◌≡◌, ℕ, length, sym, ap, ◌∙◌, arith}
+use Rattle.bus.specs.Payload.{raw}
+use Rattle.protocol.proofs.Blocking.{admitted, accepted}
+use Rattle.platform.specs.States.{state}
 use Rattle.platform.proofs.platform.Platform.blocking.Goals as goal
 
-pub returns : goal.returns
-returns g c = record { rule = c.blocking-by-rule.ensures.rule; sound = c.blocking-by-rule.ensures.sound; refused-moves-nothing = c.blocking-by-rule.ensures.refused-moves-nothing; law = leads_on g.row.T-Target.map g.row.T-Target.meter g.row.T-Target.sound c.args.self.now _ _ c.blocking-by-rule.new.self c.blocking-by-rule.ensures.rule c.blocking-by-rule.ensures.sound }
+pub serve-now-requires : goal.serve-now-requires
+serve-now-requires g c =
+    let s = state g.row.T-Target.map g.row.T-Target.meter c.args.self.now in
+    let passed = admitted s c.args.port (raw c.args.fields) (length c.args.buffer.now) c.in-Ok.ensures.0 in
+    record { known = passed.known; early = passed.early; whole = passed.whole ∙ sym (ap (λ p. p.length) c.in-Ok.ensures.1) }
+
+pub returns-in-Ok : goal.returns-in-Ok
+returns-in-Ok g c =
+    let s = state g.row.T-Target.map g.row.T-Target.meter c.args.self.now in
+    record {
+      rule = accepted s c.args.port (raw c.args.fields) c.args.buffer.now c.in-Ok.ensures.0 _ c.in-Ok.ensures.1 _ _ c.serve-now.ensures;
+      refused-moves-nothing = λ e. let z : ◌≡◌ {A = ℕ} 0 1 = cc in absurd (omega arith);
+    }

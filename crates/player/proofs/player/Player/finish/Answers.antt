@@ -12,7 +12,7 @@ returns-then-not-is-waiting c =
     record {
       answered = search rules;
       silent = λ e. (refl, refl);
-      played = λ before said h. finished before said (held c.args.self.now.line) c.args.self.now.number (state_of c.args.self.now.machine) h (not-false (none_held (held c.args.self.now.line)) (sym c.if-not-is-waiting.ensures));
+      played = λ before said h. finished before said (held c.args.self.now.line) c.args.self.now.number (state_of c.args.self.now.platform) h (not-false (none_held (held c.args.self.now.line)) (sym c.if-not-is-waiting.ensures));
     }
 
 pub returns : goal.returns
@@ -20,5 +20,5 @@ returns c =
     record {
       answered = search rules;
       silent = λ e. let z : ◌≡◌ {A = ℕ} 0 1 = cc in absurd (omega arith);
-      played = λ before said h. finished_line before said (text c.answer.new.out) (held c.args.self.now.line) c.args.self.now.number (state_of c.args.self.now.machine) (state_of c.answer.new.self.machine) h (not-true (none_held (held c.args.self.now.line)) (sym c.if-not-is-waiting.ensures)) c.answer.ensures.answer;
+      played = λ before said h. finished_line before said (text c.answer.new.out) (held c.args.self.now.line) c.args.self.now.number (state_of c.args.self.now.platform) (state_of c.answer.new.self.platform) h (not-true (none_held (held c.args.self.now.line)) (sym c.if-not-is-waiting.ensures)) c.answer.ensures.answer;
     }

@@ -35,7 +35,7 @@ returns-in-Some c =
       answered = search rules;
       silent = λ e. let z : ◌≡◌ {A = ℕ} 0 1 = cc in absurd (omega arith);
       heard = λ before said h.
-          heard_taken before said (take (c.in-Some.end - 0) c.args.bytes.now) (take c.in-Some.end c.args.bytes.now) (text c.end-line.new.out) (held c.args.self.now.line) c.args.self.now.number (state_of c.args.self.now.machine) (held c.end-line.new.self.line) c.end-line.new.self.number (state_of c.end-line.new.self.machine) part ends.none_before h
+          heard_taken before said (take (c.in-Some.end - 0) c.args.bytes.now) (take c.in-Some.end c.args.bytes.now) (text c.end-line.new.out) (held c.args.self.now.line) c.args.self.now.number (state_of c.args.self.now.platform) (held c.end-line.new.self.line) c.end-line.new.self.number (state_of c.end-line.new.self.platform) part ends.none_before h
           c.end-line.ensures.answer c.end-line.ensures.number c.end-line.ensures.line
           (take c.end-line.result.used c.args.bytes.now) c.end-line.result.answered (ap (λ n. take n c.args.bytes.now) used ∙ ends.through) answered;
     }
@@ -51,6 +51,6 @@ returns-in-None c =
       answered = search rules;
       silent = λ e. refl;
       heard = λ before said h.
-          heard_kept before said c.args.bytes.now (text c.args.out.now) (held c.args.self.now.line) c.args.self.now.number (state_of c.args.self.now.machine) (held c.keep.new.self.line) c.keep.new.self.number (state_of c.keep.new.self.machine) (end_missing c.args.bytes.now (sym c.in-None.ensures)) c.keep.ensures.line c.keep.ensures.number (ap state_of c.keep.ensures.machine) h
+          heard_kept before said c.args.bytes.now (text c.args.out.now) (held c.args.self.now.line) c.args.self.now.number (state_of c.args.self.now.platform) (held c.keep.new.self.line) c.keep.new.self.number (state_of c.keep.new.self.platform) (end_missing c.args.bytes.now (sym c.in-None.ensures)) c.keep.ensures.line c.keep.ensures.number (ap state_of c.keep.ensures.platform) h
           (take c.keep.result.used c.args.bytes.now) c.keep.result.answered (ap (λ n. take n c.args.bytes.now) used) answered;
     }

@@ -1,6 +1,5 @@
 use Rattle.std.proofs.Common.{[], sym, refl, ◌∙◌, subst}
-use Rattle.protocol.specs.States.{fresh}
-use Rattle.player.specs.Interconnect.{start_map}
+use Rattle.protocol.specs.Rules.{fresh}
 use Rattle.player.specs.Streams.{Played, none}
 use Rattle.player.proofs.player.Player.new.Goals as goal
 
@@ -9,5 +8,5 @@ returns c =
     record {
       unfinished = c.new-2.ensures;
       next = refl;
-      answers = subst (Played [] []) (sym (c.in-ok-new.ensures ∙ (λ t. fresh (c.usual-settings.ensures t) start_map 0))) none;
+      answers = subst (Played [] []) (sym (c.new.ensures.state ∙ (λ t. fresh (c.usual-settings.ensures t) (c.interconnect.ensures.map t) (c.interconnect.ensures.meter t)))) none;
     }

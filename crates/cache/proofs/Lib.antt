@@ -1,6 +1,0 @@
-pub mod Statuses
-pub mod FromBusFilling
-pub mod Changing
-pub mod Asking
-pub mod Holding
-pub mod Lasting

@@ -1,5 +1,0 @@
-mod cache;
-mod line;
-mod lines;
-
-pub use cache::Cache;

@@ -1,4 +1,0 @@
-pub mod Delay
-pub mod Cut
-pub mod Steps
-pub mod Access

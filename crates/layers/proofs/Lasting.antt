@@ -1,0 +1,81 @@
+-- Which lines are held while a span is read line by line, and after a write.
+use Rattle.std.proofs.Common.{◌≡◌, ℕ, suc, ◌+◌, ◌-◌, ◌*◌, ◌/◌, ◌%◌, ◌<◌, ◌≤◌, Bool, true, false, cond, ltb, ◌⊎◌, List, [], ◌∷◌, map, length, get_or, replicate, Some, None, Option, sym, refl, ap, ◌∙◌, subst, inl, inr, ⊎_elim, arith}
+use Rattle.std.proofs.lemmas.List.{length-map, get_or-map}
+use Rattle.std.proofs.lemmas.Bool.{cases_lt, and_cases, ltb-false}
+use Rattle.bus.specs.Map.{AddressMap, written}
+use Rattle.bus.specs.Laws.{Agree}
+use Rattle.bus.specs.Target.{if_okay}
+use Rattle.bus.specs.declared.kinds.Command.TheVariants.{Read}
+use Rattle.bus.proofs.Congruence.{congruence}
+use Rattle.bus.proofs.Distance.{distance}
+use Rattle.bus.proofs.Stability.{stability}
+use Rattle.layers.specs.Cut.{cut_at}
+use Rattle.layers.specs.Lines.{whole, no_line, empty_line, kept_line, line_in, Sound, held_in, held_ins, meets, unless_met, line_unless_met, after_piece, after_pieces, held_after_read, held_after_write}
+use Rattle.layers.specs.declared.line.Line.{Line}
+use Rattle.layers.proofs.Counting.{left, all_left, none_left, one_less, next_block}
+
+-- The lines held after what is left to read from place `at` on.
+abbrev pub held_after_rest : AddressMap → (a at n : ℕ) → List (Option ℕ) → List (Option ℕ)
+held_after_rest m a at n places = after_pieces m ((a + at) / 16) (left 16 a at n) places
+
+pub all_to_read : (m : AddressMap) (a n : ℕ) (places : List (Option ℕ)) → 1 ≤ n → held_after_rest m a 0 n places ≡ held_after_read m a n places
+all_to_read m a n places some = let e : a + 0 ≡ a = omega arith in let f = all_left 16 a n some in (λ t. after_pieces m (e t / 16) (f t) places)
+
+pub none_to_read : (m : AddressMap) (a at n : ℕ) (places : List (Option ℕ)) → n ≤ at → held_after_rest m a at n places ≡ places
+none_to_read m a at n places le = ap (λ c. after_pieces m ((a + at) / 16) c places) (none_left 16 a at n le)
+
+pub one_read : (m : AddressMap) (a at n j : ℕ) (places places' : List (Option ℕ)) → at < n → j ≡ cut_at a 16 at n → places' ≡ after_piece m ((a + at) / 16) places → held_after_rest m a j n places' ≡ held_after_rest m a at n places
+one_read m a at n j places places' lt to new =
+    let less = one_less 16 a at n j (omega arith) lt to in
+    let count : left 16 a at n ≡ suc (left 16 a j n) = omega arith in
+    let step : after_pieces m ((a + at) / 16 + 1) (left 16 a j n) (after_piece m ((a + at) / 16) places) ≡ held_after_rest m a at n places = sym (ap (λ c. after_pieces m ((a + at) / 16) c places) count) in
+    let same : after_pieces m ((a + j) / 16) (left 16 a j n) places' ≡ after_pieces m ((a + at) / 16 + 1) (left 16 a j n) places' =
+    ⊎_elim
+    (λ inside. ap (λ k. after_pieces m k (left 16 a j n) places') (next_block 16 a at n j (omega arith) lt to inside))
+    (λ outside. let none = none_left 16 a j n outside in ap (λ c. after_pieces m ((a + j) / 16) c places') none ∙ sym (ap (λ c. after_pieces m ((a + at) / 16 + 1) c places') none))
+    (cases_lt j n) in
+    same ∙ ap (after_pieces m ((a + at) / 16 + 1) (left 16 a j n)) new ∙ step
+
+pub within_line : (a at n j : ℕ) → at < j → j ≡ cut_at a 16 at n → (a + at) % 16 + (j - at) ≤ 16
+within_line a at n j lt to = omega arith
+
+-- After a write to n bytes from a.
+dropped : (a n : ℕ) (line : Line) → held_in (line_unless_met a n line) ≡ unless_met a n (held_in line)
+dropped a n line =
+    elim line.held as (λ b. held_in (cond (meets a n line.number) empty_line (record { held = b; number = line.number; bytes = line.bytes })) ≡ unless_met a n (cond b (Some line.number) None)) [
+      | true ↦ elim (meets a n line.number) as (λ b. held_in (cond b empty_line (record { held = true; number = line.number; bytes = line.bytes })) ≡ cond b None (Some line.number)) [ true ↦ refl | false ↦ refl ]
+      | false ↦ elim (meets a n line.number) as (λ b. held_in (cond b empty_line (record { held = false; number = line.number; bytes = line.bytes })) ≡ None) [ true ↦ refl | false ↦ refl ]
+    ]
+
+pub places_dropped : (a n : ℕ) (lines : List Line) → held_ins (map (line_unless_met a n) lines) ≡ held_after_write a n (held_ins lines)
+places_dropped a n [] = refl
+places_dropped a n (x ∷ xs) = (λ t. dropped a n x t ∷ places_dropped a n xs t)
+
+-- A line that has no byte of the span stays as it is.
+apart : (a n k i : ℕ) → i < 16 → meets a n k ≡ false → (k * 16 + i < a) ⊎ (a + n ≤ k * 16 + i)
+apart a n k i lt e =
+    ⊎_elim (λ f. let le = ltb-false a (k * 16 + 16) f in inl (omega arith)) (λ f. let le = ltb-false (k * 16) (a + n) f in inr (omega arith)) (and_cases (ltb a (k * 16 + 16)) (ltb (k * 16) (a + n)) e)
+
+unchanged : (m : AddressMap) (a : ℕ) (es : List Bool) (vs : List ℕ) (k : ℕ) → meets a (length es) k ≡ false → line_in (written a es vs m) k ≡ line_in m k
+unchanged m a es vs k e =
+    let status = stability.judging m a es vs Read (k * 16) whole in
+    let agree : Agree (written a es vs m) m (k * 16) (k * 16) 16 = λ i lt. distance.writing m a es vs (k * 16 + i) (apart a (length es) k i lt e) in
+    let bytes = congruence.filling (written a es vs m) m (k * 16) (k * 16) whole (replicate 16 0) agree in
+    (λ t. if_okay (status t) (Some (kept_line k (bytes t))) None)
+
+still_held : (a n : ℕ) (line : Line) → (line_unless_met a n line).held ≡ true → (meets a n line.number ≡ false) × (line_unless_met a n line ≡ line)
+still_held a n line held =
+    (elim (meets a n line.number) as (λ b. (cond b empty_line line).held ≡ true → (b ≡ false) × (cond b empty_line line ≡ line))
+    [ true ↦ (λ h. let z : ◌≡◌ {A = ℕ} 0 1 = cc in absurd (omega arith)) | false ↦ (λ h. (refl, refl)) ]) held
+
+pub sound_dropped : (m m' : AddressMap) (a : ℕ) (es : List Bool) (vs : List ℕ) (lines lines' : List Line) → m' ≡ written a es vs m → lines' ≡ map (line_unless_met a (length es)) lines → Sound m lines → Sound m' lines'
+sound_dropped m m' a es vs lines lines' new are sound =
+    subst (λ x. Sound x lines') (sym new) (subst (Sound (written a es vs m)) (sym are) (
+      length-map lines (line_unless_met a (length es)) ∙ sound.0,
+      (λ i lt held.
+          let here : get_or (map (line_unless_met a (length es)) lines) i no_line ≡ line_unless_met a (length es) (get_or lines i no_line) = get_or-map (line_unless_met a (length es)) lines i no_line no_line (omega (arith, sound.0)) in
+          let stays = still_held a (length es) (get_or lines i no_line) (sym (ap (λ (l : Line). l.held) here) ∙ held) in
+          let same : get_or (map (line_unless_met a (length es)) lines) i no_line ≡ get_or lines i no_line = here ∙ stays.1 in
+          let was = sound.1 i lt (sym (ap (λ (l : Line). l.held) same) ∙ held) in
+          (ap (λ (l : Line). l.number % 8) same ∙ was.0, ap (λ (l : Line). line_in (written a es vs m) l.number) same ∙ unchanged m a es vs (get_or lines i no_line).number stays.0 ∙ was.1 ∙ sym (ap Some same))),
+    ))

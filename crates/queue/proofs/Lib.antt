@@ -1,4 +1,0 @@
-pub mod Each
-pub mod Due
-pub mod Foremost
-pub mod Removing
