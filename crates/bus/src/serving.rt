@@ -38,10 +38,10 @@ fn beat_span<'a>(payload: &Payload, marks: &'a [bool], from: usize, to: usize) -
 // Reads a payload that is judged 1, beat by beat, each on its own part of the buffer.
 fn read_beats<T: Target>(target: &mut T, payload: &Payload, buffer: &mut [u8]) -> u64
     requires length { length buffer.old ≡ payload.now.length }
-    requires judged { judged (map target.old) Read payload.now.address (marks_from (access payload.now).enables 0 (min payload.now.width payload.now.length)) ≡ Okay }
-    ensures bytes { buffer.new ≡ found_from 0 (access payload.now) (map target.old) buffer.old }
-    ensures map { map target.new ≡ map target.old }
-    ensures meter { meter target.new ≡ (meter target.old + result) % 2 ^ 64 }
+    requires judged { judged (T.map target.old) Read payload.now.address (marks_from (access payload.now).enables 0 (min payload.now.width payload.now.length)) ≡ Okay }
+    ensures bytes { buffer.new ≡ found_from 0 (access payload.now) (T.map target.old) buffer.old }
+    ensures map { T.map target.new ≡ T.map target.old }
+    ensures meter { T.meter target.new ≡ (T.meter target.old + result) % 2 ^ 64 }
     ensures delay { result ≤ 1000000 * ((payload.now.length - 1) / payload.now.width + 1) }
 {
     let marks = payload.marks();
@@ -57,9 +57,9 @@ fn read_beats<T: Target>(target: &mut T, payload: &Payload, buffer: &mut [u8]) -
 // Writes a payload that is judged 1, beat by beat, each with its own part of the data.
 fn write_beats<T: Target>(target: &mut T, payload: &Payload, bytes: &[u8]) -> u64
     requires length { length bytes.now ≡ payload.now.length }
-    requires judged { judged (map target.old) Write payload.now.address (marks_from (access payload.now).enables 0 (min payload.now.width payload.now.length)) ≡ Okay }
-    ensures map { map target.new ≡ written_from 0 (access payload.now) bytes.now (map target.old) }
-    ensures meter { meter target.new ≡ (meter target.old + result) % 2 ^ 64 }
+    requires judged { judged (T.map target.old) Write payload.now.address (marks_from (access payload.now).enables 0 (min payload.now.width payload.now.length)) ≡ Okay }
+    ensures map { T.map target.new ≡ written_from 0 (access payload.now) bytes.now (T.map target.old) }
+    ensures meter { T.meter target.new ≡ (T.meter target.old + result) % 2 ^ 64 }
     ensures delay { result ≤ 1000000 * ((payload.now.length - 1) / payload.now.width + 1) }
 {
     let marks = payload.marks();
@@ -74,7 +74,7 @@ fn write_beats<T: Target>(target: &mut T, payload: &Payload, bytes: &[u8]) -> u6
 
 // The status of a payload, over the bytes that it reaches.
 fn judge_payload<T: Target>(target: &T, payload: &Payload) -> Status
-    ensures { result ≡ judged_access (map target.now) (access payload.now) }
+    ensures { result ≡ judged_access (T.map target.now) (access payload.now) }
 {
     let marks = payload.marks();
     let span = Span {
@@ -86,7 +86,7 @@ fn judge_payload<T: Target>(target: &T, payload: &Payload) -> Status
 
 // Judges a payload once, and with status 1 moves its bytes beat by beat.
 fn judge_and_move<T: Target>(target: &mut T, payload: &Payload, buffer: &mut [u8]) -> Outcome
-    ensures { Serves (map target.old) (meter target.old) (access payload.now) buffer.old result buffer.new (map target.new) (meter target.new) }
+    ensures { Serves (T.map target.old) (T.meter target.old) (access payload.now) buffer.old result buffer.new (T.map target.new) (T.meter target.new) }
 {
     if buffer.len() != payload.length {
         return Outcome {
@@ -110,7 +110,7 @@ fn judge_and_move<T: Target>(target: &mut T, payload: &Payload, buffer: &mut [u8
 // order. An IGNORE is only judged. What is judged, filled and written obeys the laws.
 pub fn serve<T: Target>(target: &mut T, payload: &Payload, buffer: &mut [u8]) -> Outcome
     ensures laws { Laws }
-    ensures serves { Serves (map target.old) (meter target.old) (access payload.now) buffer.old result buffer.new (map target.new) (meter target.new) }
+    ensures serves { Serves (T.map target.old) (T.meter target.old) (access payload.now) buffer.old result buffer.new (T.map target.new) (T.meter target.new) }
 {
     judge_and_move(target, payload, buffer)
 }

@@ -1,3 +1,5 @@
+#![tactic(auto)]
+
 // Targets with bytes of their own: a scratchpad, a ROM and a register bank.
 mod at_most;
 mod bank;

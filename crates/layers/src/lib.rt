@@ -1,3 +1,5 @@
+#![tactic(auto)]
+
 mod bridge;
 mod cache;
 mod lend;

@@ -17,9 +17,9 @@ pub(crate) fn read_pieces<T: Target>(
 ) -> u64
     requires width { (1 ≤ width) × (width ≤ 16) }
     requires length { length buffer.old ≡ length span.enabled.now }
-    requires judged { judged (map lower.old) Read span.start span.enabled.now ≡ Okay }
-    ensures bytes { buffer.new ≡ filled (map lower.old) span.entry.start span.entry.enabled.now buffer.old }
-    ensures map { map lower.new ≡ map lower.old }
+    requires judged { judged (T.map lower.old) Read span.start span.enabled.now ≡ Okay }
+    ensures bytes { buffer.new ≡ filled (T.map lower.old) span.entry.start span.entry.enabled.now buffer.old }
+    ensures map { T.map lower.new ≡ T.map lower.old }
     ensures accesses { Reached (λ i j. OneRead T.Target.map T.Target.meter span.entry.enabled.now (span.entry.start + i) i j) (λ i. cut_at span.entry.start width i (length span.entry.enabled.now)) (length span.entry.enabled.now) lower.old lower.new }
     ensures count { result ≡ pieces width span.entry.start (length span.entry.enabled.now) }
     ensures few { result ≤ 64 }
@@ -44,8 +44,8 @@ pub(crate) fn write_pieces<T: Target>(
 ) -> u64
     requires width { (1 ≤ width) × (width ≤ 16) }
     requires length { length bytes.now ≡ length span.enabled.now }
-    requires judged { judged (map lower.old) Write span.start span.enabled.now ≡ Okay }
-    ensures map { map lower.new ≡ written span.entry.start span.entry.enabled.now bytes.now (map lower.old) }
+    requires judged { judged (T.map lower.old) Write span.start span.enabled.now ≡ Okay }
+    ensures map { T.map lower.new ≡ written span.entry.start span.entry.enabled.now bytes.now (T.map lower.old) }
     ensures accesses { Reached (λ i j. OneWrite T.Target.map T.Target.meter span.entry.enabled.now bytes.now (span.entry.start + i) i j) (λ i. cut_at span.entry.start width i (length span.entry.enabled.now)) (length span.entry.enabled.now) lower.old lower.new }
     ensures count { result ≡ pieces width span.entry.start (length span.entry.enabled.now) }
     ensures few { result ≤ 64 }

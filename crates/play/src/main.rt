@@ -1,3 +1,5 @@
+#![tactic(auto)]
+
 ghost use Rattle.std.specs.Prelude.{OnOk};
 ghost use Rattle.play.specs.Heard.{HearsOn};
 

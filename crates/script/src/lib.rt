@@ -1,3 +1,5 @@
+#![tactic(auto)]
+
 // Reads the lines of a script: a record each, or what is wrong with the line.
 mod fault_numbers;
 mod faults;

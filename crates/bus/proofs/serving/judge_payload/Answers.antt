@@ -10,4 +10,4 @@ returns g c =
     let size : c.reach.result - 0 ≡ min p.width p.length = omega arith in
     let part : take (c.reach.result - 0) c.marks-marks.result ≡ marks_from p.enables 0 (min p.width p.length) =
     (λ u. take (size u) (c.marks-marks.ensures u)) ∙ take_marks (min p.width p.length) p.enables 0 64 (omega arith) in
-    c.judge.ensures ∙ ap (judged (g.T-as-Target.map c.args.target.now) p.command p.address) part
+    c.judge.ensures ∙ ap (judged (g.T.Target.map c.args.target.now) p.command p.address) part

@@ -10,7 +10,7 @@ returns g c =
     let x = c.args.lower.now in
     let y = c.read.new.self in
     record {
-      bytes = served_read (g.row.T-Target.map x) (g.row.T-Target.meter x) a es c.args.buffer.now c.read.result c.read.new.buffer (g.row.T-Target.map y) (g.row.T-Target.meter y) c.read.ensures c.requires.length c.requires.judged;
+      bytes = served_read (g.T.Target.map x) (g.T.Target.meter x) a es c.args.buffer.now c.read.result c.read.new.buffer (g.T.Target.map y) (g.T.Target.meter y) c.read.ensures c.requires.length c.requires.judged;
       map = c.read.ensures.map_stays;
-      below = whole_read g.row.T-Target.map g.row.T-Target.meter es x y a a es refl c.args.buffer.now c.read.result c.read.new.buffer refl c.read.ensures;
+      below = whole_read g.T.Target.map g.T.Target.meter es x y a a es refl c.args.buffer.now c.read.result c.read.new.buffer refl c.read.ensures;
     }

@@ -15,7 +15,7 @@ pub loop-at-init : goal.loop-at-init
 loop-at-init g c = (
   none_counted 16 c.args.span.start (length c.args.span.enabled.now) (omega arith),
   refl,
-  all_to_read (g.row.T-Target.map c.args.lower.now) c.args.span.start (length c.args.span.enabled.now) (held_ins c.args.lines.now) (omega arith),
+  all_to_read (g.T.Target.map c.args.lower.now) c.args.span.start (length c.args.span.enabled.now) (held_ins c.args.lines.now) (omega arith),
   (λ sound. sound),
   (λ sound. refl),
   none,
@@ -23,51 +23,51 @@ loop-at-init g c = (
 
 pub part-requires : goal.part-requires
 part-requires g c =
-    let below : c.args.span.start + length c.args.span.enabled.now ≤ 2 ^ 32 = lies_below (g.row.T-Target.map c.args.lower.now) (g.met.T.Target.bounded c.args.lower.now) Read c.args.span.start c.args.span.enabled.now (omega arith) c.requires.judged in
-    (c.piece-end-end.ensures.after, c.piece-end-end.ensures.within, omega (arith, c.piece-end-end.ensures.within))
+    let below : c.args.span.start + length c.args.span.enabled.now ≤ 2 ^ 32 = lies_below (g.T.Target.map c.args.lower.now) (g.met.T.Target.bounded c.args.lower.now) Read c.args.span.start c.args.span.enabled.now (omega arith) c.requires.judged in
+    (c.piece_end-end.ensures.after, c.piece_end-end.ensures.within, omega (arith, c.piece_end-end.ensures.within))
 
-pub read-piece-requires : goal.read-piece-requires
-read-piece-requires g c =
+pub read_piece-requires : goal.read_piece-requires
+read_piece-requires g c =
     let a = c.args.span.start in
     let es = c.args.span.enabled.now in
     let i = c.loop-at.at in
-    let j = c.piece-end-end.result in
-    let lt = c.piece-end-end.ensures.after in
-    let within = c.piece-end-end.ensures.within in
+    let j = c.piece_end-end.result in
+    let lt = c.piece_end-end.ensures.after in
+    let within = c.piece_end-end.ensures.within in
     let size : length (cut i j es) ≡ j - i = length_cut es i j (omega arith) within in
     let long : length c.part.result.enabled.now ≡ j - i = ap length c.part.ensures.enabled ∙ size in
     record {
       length = length_cut c.loop-at.buffer i j (omega arith) (omega (arith, within, c.loop-at.auto.buffer, c.requires.length)) ∙ sym long;
-      within = let line = within_line a i (length es) j lt c.piece-end-end.ensures.value in let start = ap (λ x. x % 16) c.part.ensures.start in omega (arith, line, start, long);
-      judged = (λ t. judged (c.loop-at.invariant.1 t) Read (c.part.ensures.start t) (c.part.ensures.enabled t)) ∙ part_judged (g.row.T-Target.map c.args.lower.now) a es i j (omega arith) within Read c.requires.judged;
+      within = let line = within_line a i (length es) j lt c.piece_end-end.ensures.value in let start = ap (λ x. x % 16) c.part.ensures.start in omega (arith, line, start, long);
+      judged = (λ t. judged (c.loop-at.invariant.1 t) Read (c.part.ensures.start t) (c.part.ensures.enabled t)) ∙ part_judged (g.T.Target.map c.args.lower.now) a es i j (omega arith) within Read c.requires.judged;
     }
 
 pub loop-at-preserved : goal.loop-at-preserved
 loop-at-preserved g c =
-    let m = g.row.T-Target.map c.args.lower.now in
+    let m = g.T.Target.map c.args.lower.now in
     let same = c.loop-at.invariant.1 in
     let a = c.args.span.start in
     let es = c.args.span.enabled.now in
     let i = c.loop-at.at in
-    let j = c.piece-end-end.result in
-    let lt = c.piece-end-end.ensures.after in
-    let within = c.piece-end-end.ensures.within in
+    let j = c.piece_end-end.result in
+    let lt = c.piece_end-end.ensures.after in
+    let within = c.piece_end-end.ensures.within in
     let start = c.part.ensures.start in (
-      one_counted 16 a (length es) i c.loop-at.count j (omega arith) c.loop-at-test.true c.piece-end-end.ensures.value lt within c.loop-at.invariant.0,
-      c.read-piece.ensures.map ∙ same,
-      one_read m a i (length es) j (held_ins c.loop-at.lines) (held_ins c.read-piece.new.lines) c.loop-at-test.true c.piece-end-end.ensures.value
-          (c.read-piece.ensures.places ∙ (λ t. after_piece (same t) (start t / 16) (held_ins c.loop-at.lines))) ∙ c.loop-at.invariant.2,
-      (λ sound. subst (λ x. Sound x c.read-piece.new.lines) same (c.read-piece.ensures.sound (subst (λ x. Sound x c.loop-at.lines) (sym same) (c.loop-at.invariant.3 sound)))),
+      one_counted 16 a (length es) i c.loop-at.count j (omega arith) c.loop-at-test.true c.piece_end-end.ensures.value lt within c.loop-at.invariant.0,
+      c.read_piece.ensures.map ∙ same,
+      one_read m a i (length es) j (held_ins c.loop-at.lines) (held_ins c.read_piece.new.lines) c.loop-at-test.true c.piece_end-end.ensures.value
+          (c.read_piece.ensures.places ∙ (λ t. after_piece (same t) (start t / 16) (held_ins c.loop-at.lines))) ∙ c.loop-at.invariant.2,
+      (λ sound. subst (λ x. Sound x c.read_piece.new.lines) same (c.read_piece.ensures.sound (subst (λ x. Sound x c.loop-at.lines) (sym same) (c.loop-at.invariant.3 sound)))),
       (λ sound.
-          filled_part a es i j lt within c.part.result.start c.part.result.enabled.now c.part.ensures.enabled m c.args.buffer.now c.loop-at.buffer c.read-piece.new.buffer c.requires.length (c.loop-at.invariant.4 sound)
-          (c.read-piece.ensures.bytes (subst (λ x. Sound x c.loop-at.lines) (sym same) (c.loop-at.invariant.3 sound)) ∙ (λ t. filled (same t) (start t) (c.part.ensures.enabled t) (cut i j c.loop-at.buffer)))),
-      one_piece_more g.row.T-Target.map g.row.T-Target.meter a es (λ k. cut_at a 16 k (length es)) i j c.piece-end-end.ensures.value c.part.result.start c.part.result.enabled.now start c.part.ensures.enabled c.args.lower.now c.loop-at.lower c.read-piece.new.lower (held_ins c.args.lines.now) (held_ins c.loop-at.lines) (held_ins c.read-piece.new.lines)
-          c.loop-at.invariant.5 c.read-piece.ensures.below c.read-piece.ensures.places,
+          filled_part a es i j lt within c.part.result.start c.part.result.enabled.now c.part.ensures.enabled m c.args.buffer.now c.loop-at.buffer c.read_piece.new.buffer c.requires.length (c.loop-at.invariant.4 sound)
+          (c.read_piece.ensures.bytes (subst (λ x. Sound x c.loop-at.lines) (sym same) (c.loop-at.invariant.3 sound)) ∙ (λ t. filled (same t) (start t) (c.part.ensures.enabled t) (cut i j c.loop-at.buffer)))),
+      one_piece_more g.T.Target.map g.T.Target.meter a es (λ k. cut_at a 16 k (length es)) i j c.piece_end-end.ensures.value c.part.result.start c.part.result.enabled.now start c.part.ensures.enabled c.args.lower.now c.loop-at.lower c.read_piece.new.lower (held_ins c.args.lines.now) (held_ins c.loop-at.lines) (held_ins c.read_piece.new.lines)
+          c.loop-at.invariant.5 c.read_piece.ensures.below c.read_piece.ensures.places,
     )
 
 pub returns : goal.returns
 returns g c =
-    let m = g.row.T-Target.map c.args.lower.now in
+    let m = g.T.Target.map c.args.lower.now in
     let a = c.args.span.start in
     let es = c.args.span.enabled.now in
     record {
@@ -75,7 +75,7 @@ returns g c =
       places = sym (none_to_read m a c.loop-at.at (length es) (held_ins c.loop-at.lines) c.loop-at-test.false) ∙ c.loop-at.invariant.2;
       sound = c.loop-at.invariant.3;
       map = c.loop-at.invariant.1;
-      accesses = all_reached (PieceRead g.row.T-Target.map g.row.T-Target.meter a es) (λ k. cut_at a 16 k (length es)) c.loop-at.at (length es) (c.args.lower.now, held_ins c.args.lines.now) (c.loop-at.lower, held_ins c.loop-at.lines) c.loop-at.invariant.0.within c.loop-at-test.false c.loop-at.invariant.5;
+      accesses = all_reached (PieceRead g.T.Target.map g.T.Target.meter a es) (λ k. cut_at a 16 k (length es)) c.loop-at.at (length es) (c.args.lower.now, held_ins c.args.lines.now) (c.loop-at.lower, held_ins c.loop-at.lines) c.loop-at.invariant.0.within c.loop-at-test.false c.loop-at.invariant.5;
       count = all_counted 16 a (length es) c.loop-at.at c.loop-at.count c.loop-at-test.false c.loop-at.invariant.0;
       few = omega (arith, c.loop-at.invariant.0.few, c.loop-at.invariant.0.within);
     }

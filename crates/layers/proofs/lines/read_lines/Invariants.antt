@@ -11,11 +11,11 @@ use Rattle.layers.proofs.lines.read_lines.Given as goal
 abbrev pub invariant-loop-at : goal.invariant-loop-at
 invariant-loop-at g l =
     Counted 16 l.span.start (length l.span.enabled.now) l.at l.count
-    × (g.row.T-Target.map l.lower ≡ g.row.T-Target.map l.initial.lower)
-    × (held_after_rest (g.row.T-Target.map l.initial.lower) l.span.start l.at (length l.span.enabled.now) (held_ins l.lines) ≡ held_after_read (g.row.T-Target.map l.initial.lower) l.span.start (length l.span.enabled.now) (held_ins l.initial.lines))
-    × (Sound (g.row.T-Target.map l.initial.lower) l.initial.lines → Sound (g.row.T-Target.map l.initial.lower) l.lines)
-    × (Sound (g.row.T-Target.map l.initial.lower) l.initial.lines → Partly (filled (g.row.T-Target.map l.initial.lower) l.span.start l.span.enabled.now l.initial.buffer) l.initial.buffer l.buffer l.at)
-    × Reached (PieceRead g.row.T-Target.map g.row.T-Target.meter l.span.start l.span.enabled.now) (λ i. cut_at l.span.start 16 i (length l.span.enabled.now)) l.at (l.initial.lower, held_ins l.initial.lines) (l.lower, held_ins l.lines)
+    × (g.T.Target.map l.lower ≡ g.T.Target.map l.initial.lower)
+    × (held_after_rest (g.T.Target.map l.initial.lower) l.span.start l.at (length l.span.enabled.now) (held_ins l.lines) ≡ held_after_read (g.T.Target.map l.initial.lower) l.span.start (length l.span.enabled.now) (held_ins l.initial.lines))
+    × (Sound (g.T.Target.map l.initial.lower) l.initial.lines → Sound (g.T.Target.map l.initial.lower) l.lines)
+    × (Sound (g.T.Target.map l.initial.lower) l.initial.lines → Partly (filled (g.T.Target.map l.initial.lower) l.span.start l.span.enabled.now l.initial.buffer) l.initial.buffer l.buffer l.at)
+    × Reached (PieceRead g.T.Target.map g.T.Target.meter l.span.start l.span.enabled.now) (λ i. cut_at l.span.start 16 i (length l.span.enabled.now)) l.at (l.initial.lower, held_ins l.initial.lines) (l.lower, held_ins l.lines)
 
 abbrev pub decreases-loop-at : goal.decreases-loop-at
 decreases-loop-at g l = length l.span.enabled.now - l.at

@@ -7,15 +7,15 @@ use Rattle.layers.proofs.lines.write_lines.Goals as goal
 
 pub returns : goal.returns
 returns g c =
-    let m = g.row.T-Target.map c.args.lower.now in
-    let m' = g.row.T-Target.map c.write.new.self in
+    let m = g.T.Target.map c.args.lower.now in
+    let m' = g.T.Target.map c.write.new.self in
     let a = c.args.span.start in
     let es = c.args.span.enabled.now in
     let vs = c.args.bytes.now in
-    let new = served_write m (g.row.T-Target.meter c.args.lower.now) a es vs c.write.result m' (g.row.T-Target.meter c.write.new.self) c.write.ensures c.requires.length c.requires.judged in
+    let new = served_write m (g.T.Target.meter c.args.lower.now) a es vs c.write.result m' (g.T.Target.meter c.write.new.self) c.write.ensures c.requires.length c.requires.judged in
     record {
-      access = whole_write g.row.T-Target.map g.row.T-Target.meter es c.args.lower.now c.write.new.self a a es refl vs c.write.result c.requires.length refl c.write.ensures;
+      access = whole_write g.T.Target.map g.T.Target.meter es c.args.lower.now c.write.new.self a a es refl vs c.write.result c.requires.length refl c.write.ensures;
       map = new;
-      places = ap held_ins c.drop-met.ensures ∙ places_dropped a (length es) c.args.lines.now;
-      sound = sound_dropped m m' a es vs c.args.lines.now c.drop-met.new.lines new c.drop-met.ensures;
+      places = ap held_ins c.drop_met.ensures ∙ places_dropped a (length es) c.args.lines.now;
+      sound = sound_dropped m m' a es vs c.args.lines.now c.drop_met.new.lines new c.drop_met.ensures;
     }

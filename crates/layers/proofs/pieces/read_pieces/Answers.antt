@@ -13,22 +13,22 @@ loop-at-init g c = (none_counted c.args.width c.args.span.start (length c.args.s
 
 pub part-requires : goal.part-requires
 part-requires g c =
-    let below : c.args.span.start + length c.args.span.enabled.now ≤ 2 ^ 32 = lies_below (g.row.T-Target.map c.args.lower.now) (g.met.T.Target.bounded c.args.lower.now) Read c.args.span.start c.args.span.enabled.now (omega arith) c.requires.judged in
-    (c.piece-end-end.ensures.after, c.piece-end-end.ensures.within, omega (arith, c.piece-end-end.ensures.within))
+    let below : c.args.span.start + length c.args.span.enabled.now ≤ 2 ^ 32 = lies_below (g.T.Target.map c.args.lower.now) (g.met.T.Target.bounded c.args.lower.now) Read c.args.span.start c.args.span.enabled.now (omega arith) c.requires.judged in
+    (c.piece_end-end.ensures.after, c.piece_end-end.ensures.within, omega (arith, c.piece_end-end.ensures.within))
 
 pub loop-at-preserved : goal.loop-at-preserved
 loop-at-preserved g c =
     let a = c.args.span.start in
     let es = c.args.span.enabled.now in
     let i = c.loop-at.at in
-    let j = c.piece-end-end.result in (
-      one_counted c.args.width a (length es) i c.loop-at.count j c.requires.width.0 c.loop-at-test.true c.piece-end-end.ensures.value c.piece-end-end.ensures.after c.piece-end-end.ensures.within c.loop-at.invariant.0,
-      read_part a es i j c.piece-end-end.ensures.after c.piece-end-end.ensures.within c.part.result.start c.part.result.enabled.now c.part.ensures.enabled
-          (g.row.T-Target.map c.args.lower.now) c.args.buffer.now c.loop-at.buffer (g.row.T-Target.map c.loop-at.lower) (g.row.T-Target.meter c.loop-at.lower) c.read.result c.read.new.buffer (g.row.T-Target.map c.read.new.self) (g.row.T-Target.meter c.read.new.self)
+    let j = c.piece_end-end.result in (
+      one_counted c.args.width a (length es) i c.loop-at.count j c.requires.width.0 c.loop-at-test.true c.piece_end-end.ensures.value c.piece_end-end.ensures.after c.piece_end-end.ensures.within c.loop-at.invariant.0,
+      read_part a es i j c.piece_end-end.ensures.after c.piece_end-end.ensures.within c.part.result.start c.part.result.enabled.now c.part.ensures.enabled
+          (g.T.Target.map c.args.lower.now) c.args.buffer.now c.loop-at.buffer (g.T.Target.map c.loop-at.lower) (g.T.Target.meter c.loop-at.lower) c.read.result c.read.new.buffer (g.T.Target.map c.read.new.self) (g.T.Target.meter c.read.new.self)
           c.requires.length (c.loop-at.auto.buffer ∙ c.requires.length) c.requires.judged c.loop-at.invariant.1
-          (agree_same (g.row.T-Target.map c.args.lower.now) (g.row.T-Target.map c.loop-at.lower) (a + i) c.part.result.start (j - i) c.loop-at.invariant.2 c.part.ensures.start) c.read.ensures,
+          (agree_same (g.T.Target.map c.args.lower.now) (g.T.Target.map c.loop-at.lower) (a + i) c.part.result.start (j - i) c.loop-at.invariant.2 c.part.ensures.start) c.read.ensures,
       c.read.ensures.map_stays ∙ c.loop-at.invariant.2,
-      one_read_more g.row.T-Target.map g.row.T-Target.meter a es (λ k. cut_at a c.args.width k (length es)) i j c.piece-end-end.ensures.value c.part.result.start c.part.result.enabled.now c.part.ensures.start c.part.ensures.enabled c.args.lower.now c.loop-at.lower c.read.new.self
+      one_read_more g.T.Target.map g.T.Target.meter a es (λ k. cut_at a c.args.width k (length es)) i j c.piece_end-end.ensures.value c.part.result.start c.part.result.enabled.now c.part.ensures.start c.part.ensures.enabled c.args.lower.now c.loop-at.lower c.read.new.self
           (cut i j c.loop-at.buffer) c.read.result c.read.new.buffer c.loop-at.invariant.3 c.read.ensures,
     )
 
@@ -37,9 +37,9 @@ returns g c =
     let a = c.args.span.start in
     let es = c.args.span.enabled.now in
     record {
-      bytes = all_read (g.row.T-Target.map c.args.lower.now) a es c.args.buffer.now c.loop-at.buffer c.loop-at.at c.requires.length c.loop-at-test.false c.loop-at.invariant.1;
+      bytes = all_read (g.T.Target.map c.args.lower.now) a es c.args.buffer.now c.loop-at.buffer c.loop-at.at c.requires.length c.loop-at-test.false c.loop-at.invariant.1;
       map = c.loop-at.invariant.2;
-      accesses = all_reached (λ i j. OneRead g.row.T-Target.map g.row.T-Target.meter es (a + i) i j) (λ k. cut_at a c.args.width k (length es)) c.loop-at.at (length es) c.args.lower.now c.loop-at.lower c.loop-at.invariant.0.within c.loop-at-test.false c.loop-at.invariant.3;
+      accesses = all_reached (λ i j. OneRead g.T.Target.map g.T.Target.meter es (a + i) i j) (λ k. cut_at a c.args.width k (length es)) c.loop-at.at (length es) c.args.lower.now c.loop-at.lower c.loop-at.invariant.0.within c.loop-at-test.false c.loop-at.invariant.3;
       count = all_counted c.args.width a (length es) c.loop-at.at c.loop-at.count c.loop-at-test.false c.loop-at.invariant.0;
       few = omega (arith, c.loop-at.invariant.0.few, c.loop-at.invariant.0.within);
     }

@@ -10,26 +10,26 @@ use Rattle.layers.proofs.pieces.write_pieces.Goals as goal
 pub loop-at-init : goal.loop-at-init
 loop-at-init g c = (
   none_counted c.args.width c.args.span.start (length c.args.span.enabled.now) (omega arith),
-  sym (none_written (g.row.T-Target.map c.args.lower.now) c.args.span.start []),
+  sym (none_written (g.T.Target.map c.args.lower.now) c.args.span.start []),
   none,
 )
 
 pub part-requires : goal.part-requires
 part-requires g c =
-    let below : c.args.span.start + length c.args.span.enabled.now ≤ 2 ^ 32 = lies_below (g.row.T-Target.map c.args.lower.now) (g.met.T.Target.bounded c.args.lower.now) Write c.args.span.start c.args.span.enabled.now (omega arith) c.requires.judged in
-    (c.piece-end-end.ensures.after, c.piece-end-end.ensures.within, omega (arith, c.piece-end-end.ensures.within))
+    let below : c.args.span.start + length c.args.span.enabled.now ≤ 2 ^ 32 = lies_below (g.T.Target.map c.args.lower.now) (g.met.T.Target.bounded c.args.lower.now) Write c.args.span.start c.args.span.enabled.now (omega arith) c.requires.judged in
+    (c.piece_end-end.ensures.after, c.piece_end-end.ensures.within, omega (arith, c.piece_end-end.ensures.within))
 
 pub loop-at-preserved : goal.loop-at-preserved
 loop-at-preserved g c =
     let a = c.args.span.start in
     let es = c.args.span.enabled.now in
     let i = c.loop-at.at in
-    let j = c.piece-end-end.result in (
-      one_counted c.args.width a (length es) i c.loop-at.count j c.requires.width.0 c.loop-at-test.true c.piece-end-end.ensures.value c.piece-end-end.ensures.after c.piece-end-end.ensures.within c.loop-at.invariant.0,
-      write_part a es i j c.piece-end-end.ensures.after c.piece-end-end.ensures.within c.part.result.start c.part.result.enabled.now c.part.ensures.enabled
-          (g.row.T-Target.map c.args.lower.now) c.args.bytes.now (g.row.T-Target.map c.loop-at.lower) (g.row.T-Target.meter c.loop-at.lower) c.write.result (g.row.T-Target.map c.write.new.self) (g.row.T-Target.meter c.write.new.self)
+    let j = c.piece_end-end.result in (
+      one_counted c.args.width a (length es) i c.loop-at.count j c.requires.width.0 c.loop-at-test.true c.piece_end-end.ensures.value c.piece_end-end.ensures.after c.piece_end-end.ensures.within c.loop-at.invariant.0,
+      write_part a es i j c.piece_end-end.ensures.after c.piece_end-end.ensures.within c.part.result.start c.part.result.enabled.now c.part.ensures.enabled
+          (g.T.Target.map c.args.lower.now) c.args.bytes.now (g.T.Target.map c.loop-at.lower) (g.T.Target.meter c.loop-at.lower) c.write.result (g.T.Target.map c.write.new.self) (g.T.Target.meter c.write.new.self)
           c.part.ensures.start c.requires.length c.requires.judged c.loop-at.invariant.1 c.write.ensures,
-      one_write_more g.row.T-Target.map g.row.T-Target.meter a es (λ k. cut_at a c.args.width k (length es)) i j c.piece-end-end.ensures.value c.part.result.start c.part.result.enabled.now c.part.ensures.start c.part.ensures.enabled c.args.lower.now c.loop-at.lower c.write.new.self
+      one_write_more g.T.Target.map g.T.Target.meter a es (λ k. cut_at a c.args.width k (length es)) i j c.piece_end-end.ensures.value c.part.result.start c.part.result.enabled.now c.part.ensures.start c.part.ensures.enabled c.args.lower.now c.loop-at.lower c.write.new.self
           c.args.bytes.now c.write.result c.loop-at.invariant.2 c.write.ensures,
     )
 
@@ -38,8 +38,8 @@ returns g c =
     let a = c.args.span.start in
     let es = c.args.span.enabled.now in
     record {
-      accesses = all_reached (λ i j. OneWrite g.row.T-Target.map g.row.T-Target.meter es c.args.bytes.now (a + i) i j) (λ k. cut_at a c.args.width k (length es)) c.loop-at.at (length es) c.args.lower.now c.loop-at.lower c.loop-at.invariant.0.within c.loop-at-test.false c.loop-at.invariant.2;
-      map = all_written (g.row.T-Target.map c.args.lower.now) (g.row.T-Target.map c.loop-at.lower) a es c.args.bytes.now c.loop-at.at c.requires.length c.loop-at-test.false c.loop-at.invariant.1;
+      accesses = all_reached (λ i j. OneWrite g.T.Target.map g.T.Target.meter es c.args.bytes.now (a + i) i j) (λ k. cut_at a c.args.width k (length es)) c.loop-at.at (length es) c.args.lower.now c.loop-at.lower c.loop-at.invariant.0.within c.loop-at-test.false c.loop-at.invariant.2;
+      map = all_written (g.T.Target.map c.args.lower.now) (g.T.Target.map c.loop-at.lower) a es c.args.bytes.now c.loop-at.at c.requires.length c.loop-at-test.false c.loop-at.invariant.1;
       count = all_counted c.args.width a (length es) c.loop-at.at c.loop-at.count c.loop-at-test.false c.loop-at.invariant.0;
       few = omega (arith, c.loop-at.invariant.0.few, c.loop-at.invariant.0.within);
     }

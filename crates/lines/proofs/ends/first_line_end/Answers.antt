@@ -7,4 +7,4 @@ pub loop-i-init : goal.loop-i-init
 loop-i-init c = sofar _ _ (λ k h. absurd (omega arith))
 
 pub loop-i-preserved : goal.loop-i-preserved
-loop-i-preserved c = sofar _ _ (below_more _ _ c.loop-i.invariant.none (eqb-false _ 10 (sym c.if-ends-line.ensures)))
+loop-i-preserved c = sofar _ _ (below_more _ _ c.loop-i.invariant.none (eqb-false _ 10 (sym c.if-ends_line.ensures)))

@@ -6,7 +6,7 @@ use Rattle.player.proofs.blocking.gather.Goals as goal
 
 pub returns : goal.returns
 returns c =
-    let size : c.buffer-size.result ≡ buffer_size c.args.command c.args.count (length (bytes_of c.args.digits.now)) = c.buffer-size.ensures ∙ ap (buffer_size c.args.command c.args.count) c.decoded-given.ensures.count in
+    let size : c.buffer_size.result ≡ buffer_size c.args.command c.args.count (length (bytes_of c.args.digits.now)) = c.buffer_size.ensures ∙ ap (buffer_size c.args.command c.args.count) c.decoded-given.ensures.count in
     record {
       buffer = ap (λ n. take n c.decoded-given.result.0) size ∙ gathered c.args.command c.args.count (bytes_of c.args.digits.now) c.decoded-given.result.0 c.decoded-given.ensures.bytes;
       within = subst (λ n. n ≤ 128) (sym size) (sized c.args.command c.args.count (length (bytes_of c.args.digits.now)) (few_bytes c.args.digits.now c.requires));

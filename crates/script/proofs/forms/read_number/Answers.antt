@@ -5,14 +5,14 @@ use Rattle.script.proofs.forms.read_number.Goals as goal
 pub loop-b-init : goal.loop-b-init
 loop-b-init c = start _ _
 
-pub overflow-add-n : goal.overflow-add-n
-overflow-add-n c =
+pub overflow_add-n : goal.overflow_add-n
+overflow_add-n c =
     let d = c.in-Some.ensures.value in
     let m = fits _ _ _ c.loop-b.n c.from-in-Some-2.result _ _ c.loop-b-test.true c.from.ensures c.from-in-Some.ensures c.loop-b.invariant (omega arith) (omega arith) (omega (arith, d)) in
     omega arith
 
-pub overflow-mul-n : goal.overflow-mul-n
-overflow-mul-n c =
+pub overflow_mul-n : goal.overflow_mul-n
+overflow_mul-n c =
     let d = c.in-Some.ensures.value in
     let m = fits _ _ _ c.loop-b.n 0 _ _ c.loop-b-test.true c.from.ensures c.from-in-Some.ensures c.loop-b.invariant (omega arith) (omega arith) (omega (arith, d)) in
     omega arith

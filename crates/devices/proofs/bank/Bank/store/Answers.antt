@@ -4,8 +4,8 @@ use Rattle.std.proofs.lemmas.List.{places, take_at}
 use Rattle.devices.specs.Rows.{rows_map}
 use Rattle.devices.proofs.bank.Bank.store.Goals as goal
 
-pub invariant-of-self : goal.invariant-of-self
-invariant-of-self c = ((search (rules, places), omega arith), tt)
+pub invariant_of-self : goal.invariant_of-self
+invariant_of-self c = record { size = (search (rules, places), omega arith) }
 
 pub returns : goal.returns
 returns c =

@@ -4,12 +4,12 @@ use Rattle.lines.proofs.CutLaws.{laws}
 use Rattle.lines.proofs.Holds.{room_over}
 use Rattle.lines.proofs.buffer.LineBuffer.add.Goals as goal
 
-pub returns-then-has-room : goal.returns-then-has-room
-returns-then-has-room c = record { laws = laws; held = c.append.ensures }
+pub returns-then-has_room : goal.returns-then-has_room
+returns-then-has_room c = record { laws = laws; held = c.append.ensures }
 
-pub returns-else-has-room : goal.returns-else-has-room
-returns-else-has-room c =
+pub returns-else-has_room : goal.returns-else-has_room
+returns-else-has_room c =
     record {
       laws = laws;
-      held = c.give-up.ensures ∙ room_over (held c.args.self.now) c.args.part.now (sym c.if-has-room.ensures);
+      held = c.give_up.ensures ∙ room_over (held c.args.self.now) c.args.part.now (sym c.if-has_room.ensures);
     }

@@ -7,12 +7,12 @@ use Rattle.player.specs.Start.{state_of}
 use Rattle.player.proofs.Stream.{finished, finished_line}
 use Rattle.player.proofs.player.Player.finish.Goals as goal
 
-pub returns-then-not-is-waiting : goal.returns-then-not-is-waiting
-returns-then-not-is-waiting c =
+pub returns-then-not-is_waiting : goal.returns-then-not-is_waiting
+returns-then-not-is_waiting c =
     record {
       answered = search rules;
       silent = λ e. (refl, refl);
-      played = λ before said h. finished before said (held c.args.self.now.line) c.args.self.now.number (state_of c.args.self.now.platform) h (not-false (none_held (held c.args.self.now.line)) (sym c.if-not-is-waiting.ensures));
+      played = λ before said h. finished before said (held c.args.self.now.line) c.args.self.now.number (state_of c.args.self.now.platform) h (not-false (none_held (held c.args.self.now.line)) (sym c.if-not-is_waiting.ensures));
     }
 
 pub returns : goal.returns
@@ -20,5 +20,5 @@ returns c =
     record {
       answered = search rules;
       silent = λ e. let z : ◌≡◌ {A = ℕ} 0 1 = cc in absurd (omega arith);
-      played = λ before said h. finished_line before said (text c.answer.new.out) (held c.args.self.now.line) c.args.self.now.number (state_of c.args.self.now.platform) (state_of c.answer.new.self.platform) h (not-true (none_held (held c.args.self.now.line)) (sym c.if-not-is-waiting.ensures)) c.answer.ensures.answer;
+      played = λ before said h. finished_line before said (text c.answer.new.out) (held c.args.self.now.line) c.args.self.now.number (state_of c.args.self.now.platform) (state_of c.answer.new.self.platform) h (not-true (none_held (held c.args.self.now.line)) (sym c.if-not-is_waiting.ensures)) c.answer.ensures.answer;
     }

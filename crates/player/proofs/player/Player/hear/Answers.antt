@@ -9,14 +9,14 @@ use Rattle.player.specs.Streams.{used_at}
 use Rattle.player.proofs.Stream.{heard_taken, heard_kept}
 use Rattle.player.proofs.player.Player.hear.Goals as goal
 
-pub slice-bounds-end-line-end : goal.slice-bounds-end-line-end
-slice-bounds-end-line-end c =
+pub slice_bounds-end_line-end : goal.slice_bounds-end_line-end
+slice_bounds-end_line-end c =
     let ends = end_found c.args.bytes.now c.in-Some.end (sym c.in-Some.ensures) in
     let within : c.in-Some.end < length c.args.bytes.now = ends.within in
     search rules
 
-pub end-line-requires : goal.end-line-requires
-end-line-requires c =
+pub end_line-requires : goal.end_line-requires
+end_line-requires c =
     let ends = end_found c.args.bytes.now c.in-Some.end (sym c.in-Some.ensures) in
     let count : length (take (c.in-Some.end - 0) c.args.bytes.now) ≡ c.in-Some.end - 0 = length-take-le (c.in-Some.end - 0) c.args.bytes.now (omega (arith, ends.within)) in
     omega (arith, ends.within, count)
@@ -26,8 +26,8 @@ returns-in-Some c =
     let ends = end_found c.args.bytes.now c.in-Some.end (sym c.in-Some.ensures) in
     let part : take (c.in-Some.end - 0) c.args.bytes.now ≡ take c.in-Some.end c.args.bytes.now = ap (λ n. take n c.args.bytes.now) (sub-zero c.in-Some.end) in
     let count : length (take c.in-Some.end c.args.bytes.now) ≡ c.in-Some.end = length-take-le c.in-Some.end c.args.bytes.now (omega (arith, ends.within)) in
-    let used : c.end-line.result.used ≡ c.in-Some.end + 1 = ap (λ t. t.used) c.end-line.ensures.taken ∙ ap (λ n. n + 1) (ap length part ∙ count) in
-    let answered : c.end-line.result.answered ≡ true = ap (λ t. t.answered) c.end-line.ensures.taken in
+    let used : c.end_line.result.used ≡ c.in-Some.end + 1 = ap (λ t. t.used) c.end_line.ensures.taken ∙ ap (λ n. n + 1) (ap length part ∙ count) in
+    let answered : c.end_line.result.answered ≡ true = ap (λ t. t.answered) c.end_line.ensures.taken in
     record {
       used = used ∙ ap (used_at c.args.bytes.now) c.in-Some.ensures;
       within = omega (arith, ends.within, used);
@@ -35,9 +35,9 @@ returns-in-Some c =
       answered = search rules;
       silent = λ e. let z : ◌≡◌ {A = ℕ} 0 1 = cc in absurd (omega arith);
       heard = λ before said h.
-          heard_taken before said (take (c.in-Some.end - 0) c.args.bytes.now) (take c.in-Some.end c.args.bytes.now) (text c.end-line.new.out) (held c.args.self.now.line) c.args.self.now.number (state_of c.args.self.now.platform) (held c.end-line.new.self.line) c.end-line.new.self.number (state_of c.end-line.new.self.platform) part ends.none_before h
-          c.end-line.ensures.answer c.end-line.ensures.number c.end-line.ensures.line
-          (take c.end-line.result.used c.args.bytes.now) c.end-line.result.answered (ap (λ n. take n c.args.bytes.now) used ∙ ends.through) answered;
+          heard_taken before said (take (c.in-Some.end - 0) c.args.bytes.now) (take c.in-Some.end c.args.bytes.now) (text c.end_line.new.out) (held c.args.self.now.line) c.args.self.now.number (state_of c.args.self.now.platform) (held c.end_line.new.self.line) c.end_line.new.self.number (state_of c.end_line.new.self.platform) part ends.none_before h
+          c.end_line.ensures.answer c.end_line.ensures.number c.end_line.ensures.line
+          (take c.end_line.result.used c.args.bytes.now) c.end_line.result.answered (ap (λ n. take n c.args.bytes.now) used ∙ ends.through) answered;
     }
 
 pub returns-in-None : goal.returns-in-None

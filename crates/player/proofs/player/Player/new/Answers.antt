@@ -8,5 +8,5 @@ returns c =
     record {
       unfinished = c.new-2.ensures;
       next = refl;
-      answers = subst (Played [] []) (sym (c.new.ensures.state ∙ (λ t. fresh (c.usual-settings.ensures t) (c.interconnect.ensures.map t) (c.interconnect.ensures.meter t)))) none;
+      answers = subst (Played [] []) (sym (c.new.ensures.state ∙ (λ t. fresh (c.usual_settings.ensures t) (c.interconnect.ensures.map t) (c.interconnect.ensures.meter t)))) none;
     }

@@ -9,5 +9,5 @@ use Rattle.response.proofs.response.Response.print.Goals as goal
 pub returns : goal.returns
 returns c =
     let line = seen c.args.self in
-    let cut : text c.write-line.new.out ≡ take 256 (shown line) = c.write-line.ensures.text ∙ line_whole [] (word line) (fields line) in
-    record { cut = cut; whole = λ short. cut ∙ take_all 256 (shown line) (short_line line c.write-line.ensures.fits short) }
+    let cut : text c.write_line.new.out ≡ take 256 (shown line) = c.write_line.ensures.text ∙ line_whole [] (word line) (fields line) in
+    record { cut = cut; whole = λ short. cut ∙ take_all 256 (shown line) (short_line line c.write_line.ensures.fits short) }

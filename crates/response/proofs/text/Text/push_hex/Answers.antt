@@ -6,7 +6,7 @@ use Rattle.response.proofs.text.Text.push_hex.Goals as goal
 
 pub loop-byte-preserved : goal.loop-byte-preserved
 loop-byte-preserved c =
-    hex_more (text c.loop-byte.self) _ c.args.bytes.now _ c.loop-byte.byte-index c.loop-byte-test.true c.push-hex-byte.ensures c.loop-byte.invariant
+    hex_more (text c.loop-byte.self) _ c.args.bytes.now _ c.loop-byte.byte-index c.loop-byte-test.true c.push_hex_byte.ensures c.loop-byte.invariant
 
 pub returns : goal.returns
 returns c =
