@@ -32,6 +32,10 @@ raw f = record { command = f.command; address = f.address; length = f.length; wi
 abbrev pub access : Payload → Access
 access p = record { command = p.command; address = p.address; length = p.length; width = p.width; enables = take p.count p.enables }
 
+-- An IGNORE of one byte at address 0.
+abbrev pub idle_access : Access
+idle_access = record { command = Ignore; address = 0; length = 1; width = 1; enables = [] }
+
 -- The refusal of the first check that fails.
 abbrev pub first : Bool → Refusal → Option Refusal → Option Refusal
 first fails r rest = cond fails (Some r) rest

@@ -2,7 +2,7 @@ ghost use Rattle.std.specs.Prelude.{◌≤◌};
 
 use crate::kinds::Command;
 
-// A payload whose fields are all in range. `Payload::new` is the only way to one.
+// A payload whose fields are all in range. `Payload::new` and `Payload::idle` make them.
 #[derive(Clone, Copy)]
 pub struct Payload {
     pub(crate) command: Command,

@@ -1,5 +1,5 @@
-ghost use Rattle.std.specs.Prelude.{◌≡◌, ℕ, ◌+◌, ◌-◌, ◌*◌, ◌/◌, ◌<◌, ◌≤◌, min, Bool, length, take, Some, None, MatchResult};
-ghost use Rattle.bus.specs.Payload.{raw, access, ill_made, access_of, is_enable, only_enables, enabled_at, marks_from};
+ghost use Rattle.std.specs.Prelude.{◌≡◌, ℕ, ◌+◌, ◌-◌, ◌*◌, ◌/◌, ◌<◌, ◌≤◌, min, Bool, length, take, Some, None, MatchResult, ◌==◌};
+ghost use Rattle.bus.specs.Payload.{raw, access, idle_access, ill_made, access_of, is_enable, only_enables, enabled_at, marks_from};
 
 use crate::fields::Fields;
 use crate::kinds::{Command, Refusal};
@@ -9,6 +9,13 @@ fn is_enable(byte: u8) -> bool
     ensures { result ≡ is_enable byte }
 {
     byte == 0x00 || byte == 0xFF
+}
+
+// Whether an enable byte enables its bytes.
+fn is_set(enable: u8) -> bool
+    ensures { result ≡ (enable == 255) }
+{
+    enable == 0xFF
 }
 
 // Whether each byte is an enable.
@@ -60,11 +67,38 @@ impl Payload {
         })
     }
 
+    // A payload that only has its address judged: what stands where none is asked for yet.
+    pub fn idle() -> Payload
+        ensures { access result ≡ idle_access }
+    {
+        Payload {
+            command: Command::Ignore,
+            address: 0,
+            length: 1,
+            width: 1,
+            count: 0,
+            enables: [0; 64],
+        }
+    }
+
+    pub fn command(&self) -> Command
+        ensures { result ≡ (access self.now).command }
+    {
+        self.command
+    }
+
+    // How many bytes it moves: 1 to 64.
+    pub fn length(&self) -> usize
+        ensures { result ≡ (access self.now).length }
+    {
+        self.length // in bytes
+    }
+
     // Whether byte i is enabled.
-    fn enabled(&self, i: usize) -> bool
+    pub fn enabled(&self, i: usize) -> bool
         ensures { result ≡ enabled_at (access self.now).enables i }
     {
-        self.count == 0 || self.enables[i % self.count] == 0xFF
+        self.count == 0 || is_set(self.enables[i % self.count])
     }
 
     // Which of the first 64 bytes are enabled.

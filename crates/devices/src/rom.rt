@@ -38,7 +38,8 @@ impl<I: Image> Rom<I> {
 
     // The bytes that are present.
     fn present(&self) -> &[u8]
-        ensures { result.now ≡ take 65536 (I.Image.bytes self.now.image) }
+        ensures bytes { result.now ≡ take 65536 (I.Image.bytes self.now.image) }
+        ensures fits { length result.now ≤ 65536 }
     {
         at_most(self.image.bytes(), 65536)
     }

@@ -1,5 +1,5 @@
 -- The lines that a cache holds: line k has the 16 addresses from 16 k on, and only place k mod 8 may hold it.
-use Rattle.std.specs.Prelude.{◌≡◌, ℕ, zero, suc, ◌+◌, ◌*◌, ◌/◌, ◌%◌, ◌<◌, Bool, true, false, cond, ◌&&◌, List, [], map, length, get_or, replicate, Some, None, Option, ◌==◌, nat_lt, slice_index_or, slice_set}
+use Rattle.std.specs.Prelude.{◌≡◌, ℕ, zero, suc, ◌+◌, ◌*◌, ◌/◌, ◌%◌, ◌<◌, Bool, true, false, cond, ◌&&◌, List, [], map, length, replicate, Some, None, Option, ◌==◌, nat_lt, slice_index_or, slice_set}
 use Rattle.bus.specs.Map.{AddressMap, judged, filled}
 use Rattle.bus.specs.Target.{if_okay}
 use Rattle.bus.specs.declared.kinds.Command.TheVariants.{Read}
@@ -30,7 +30,7 @@ line_in m k = if_okay (judged m Read (k * 16) whole) (Some (line_of m k)) None
 
 -- Each held line stands in its place, may be read as a whole, and equals the map.
 abbrev pub Sound : AddressMap → List Line → Type 0
-Sound m lines = (length lines ≡ 8) × ((i : ℕ) → i < 8 → (get_or lines i no_line).held ≡ true → ((get_or lines i no_line).number % 8 ≡ i) × (line_in m (get_or lines i no_line).number ≡ Some (slice_index_or lines i no_line)))
+Sound m lines = (length lines ≡ 8) × ((i : ℕ) → i < 8 → (slice_index_or lines i no_line).held ≡ true → ((slice_index_or lines i no_line).number % 8 ≡ i) × (line_in m (slice_index_or lines i no_line).number ≡ Some (slice_index_or lines i no_line)))
 
 -- Which line a place holds, if it holds one.
 abbrev pub held_in : Line → Option ℕ

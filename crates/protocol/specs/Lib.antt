@@ -1,3 +1,4 @@
 pub mod Settings
+pub mod Numbers
 pub mod Runs
 pub mod Rules

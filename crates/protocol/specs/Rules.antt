@@ -1,10 +1,11 @@
 -- The rule of each call.
-use Rattle.std.specs.Prelude.{◌≡◌, ℕ, ◌+◌, ◌*◌, ◌/◌, ◌%◌, ◌^◌, ◌≤◌, max, not, List, length, replicate, Some, None, MatchBool, Option, MatchOption, ◌==◌, nat_le, nat_lt, slice_index, slice_set}
+use Rattle.std.specs.Prelude.{◌≡◌, ℕ, ◌+◌, ◌*◌, ◌/◌, ◌%◌, ◌^◌, ◌<◌, ◌≤◌, max, Bool, true, false, not, ◌&&◌, ◌||◌, List, [], ◌∷◌, ◌++◌, length, replicate, Some, None, MatchBool, Option, MatchOption, ◌==◌, nat_le, nat_lt, slice_index, slice_set}
 use Rattle.bus.specs.Map.{AddressMap}
 use Rattle.bus.specs.Payload.{Raw, Access, access_of, ill_made, first, judged_access, buffer_served, map_served, beats_served}
 use Rattle.bus.specs.declared.kinds.Refusal.{Refusal}
 use Rattle.bus.specs.declared.kinds.Refusal.TheVariants.{UnknownPort, WrongDataLength, TooLate, PastSyncPoint}
 use Rattle.protocol.specs.Settings.{Asked}
+use Rattle.protocol.specs.declared.events.Event.{Event}
 use Rattle.protocol.specs.Runs.{Call, blocking, sync, Answer, refused, served, synced, State}
 
 -- A new platform: its time and every port's local time are the start time.
@@ -61,3 +62,20 @@ Unless r s a s' accepted = MatchOption r accepted (λ e. (a ≡ refused e) × (s
 abbrev pub Answered : (s : State) → Call → (a : Answer) (s' : State) → Type 0
 Answered s (blocking port f buffer) a s' = Unless (blocking_refusal s port f (length buffer)) s a s' (Blocked s port (access_of f) buffer a s')
 Answered s (sync port) a s' = Unless (sync_refusal s port) s a s' (Synced s port a s')
+
+-- Each of a list has a property.
+pub data All {X : Type 0} (P : X → Type 0) : List X → Type 0 where
+  none : All P []
+  both : {x : X} {xs : List X} → P x → All P xs → All P (x ∷ xs)
+
+-- e is of least due time among those that may be delivered, and of these the first queued.
+pub record Foremost (can : Event → Bool) (events ahead : List Event) (e : Event) (behind : List Event) : Type 0 where
+  pub stands : events ≡ ahead ++ (e ∷ behind)
+  pub may : can e ≡ true
+  pub sooner : All (λ x. can x ≡ true → e.due < x.due) ahead
+  pub no_later : All (λ x. can x ≡ true → e.due ≤ x.due) behind
+
+-- Whether an event that may be delivered is due before a time.
+unfoldable pub due_before : (Event → Bool) → (time : ℕ) → List Event → Bool
+due_before can time [] = false
+due_before can time (e ∷ es) = (can e && nat_lt e.due time) || due_before can time es

@@ -1,0 +1,22 @@
+// What a step delivers: the end of a request, or the begin of a response.
+#[derive(Clone, Copy)]
+pub enum EventKind {
+    EndRequest,
+    BeginResponse,
+}
+
+// An event that waits for its time. Times count in nanoseconds.
+#[derive(Clone, Copy)]
+pub struct Event {
+    pub kind: EventKind,
+    pub port: u64,
+    pub tag: u64,
+    pub due: u64,
+}
+
+// What an accepted call of the base protocol returns: a begin is accepted, an end completes its transaction.
+#[derive(Clone, Copy)]
+pub enum Progress {
+    Accepted,
+    Completed,
+}

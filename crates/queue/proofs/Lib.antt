@@ -1,0 +1,4 @@
+pub mod Each
+pub mod Due
+pub mod Foremost
+pub mod Removing
