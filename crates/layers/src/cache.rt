@@ -39,7 +39,7 @@ impl<T: Target> Cache<T> {
 
     pub fn judge(&self, command: Command, span: Span<'_>) -> Status
         ensures answer { result ≡ judged (T.Target.map self.now.lower) command span.entry.start span.entry.enabled.now }
-        ensures still { self.now ≡ self.now }
+        ensures still { self.exit.now ≡ self.entry.now }
     {
         self.lower.judge(command, span)
     }
@@ -80,7 +80,7 @@ impl<T: Target> Cache<T> {
 
     pub fn meter(&self) -> u64
         ensures answer { result ≡ self.now.toll.spent }
-        ensures still { self.now ≡ self.now }
+        ensures still { self.exit.now ≡ self.entry.now }
     {
         self.toll.spent()
     }

@@ -48,7 +48,7 @@ impl<L: Target, R: Target> Target for Router<L, R> {
 
     fn judge(&self, command: Command, span: Span<'_>) -> Status
         ensures answer { result ≡ judged (routed self.now.border (L.Target.map self.now.left) (R.Target.map self.now.right)) command span.entry.start span.entry.enabled.now }
-        ensures still { self.now ≡ self.now }
+        ensures still { self.exit.now ≡ self.entry.now }
     {
         judge_sides(&self.left, &self.right, self.border, command, span)
     }
@@ -93,7 +93,7 @@ impl<L: Target, R: Target> Target for Router<L, R> {
 
     fn meter(&self) -> u64
         ensures answer { result ≡ self.now.toll.spent }
-        ensures still { self.now ≡ self.now }
+        ensures still { self.exit.now ≡ self.entry.now }
     {
         self.toll.spent()
     }
