@@ -5,7 +5,7 @@ use Rattle.std.proofs.lemmas.Nat.{mod-mul-add}
 use Rattle.bus.specs.Map.{AddressMap, Cell, every_from, judged, present, allowed, filled, written, put, value_at}
 use Rattle.bus.specs.Payload.{Access, enabled_at, marks_from, address_of, found_from, written_from}
 use Rattle.bus.specs.declared.kinds.Command.{Command}
-use Rattle.bus.specs.declared.kinds.Status.TheVariants.{Okay, AddressError, CommandError}
+use Rattle.bus.specs.Answers.{Okay, AddressError, CommandError}
 
 -- Parts of a payload's bytes and marks.
 pub length_found : (i : ℕ) (p : Access) (m : AddressMap) (bs : List ℕ) → length (found_from i p m bs) ≡ length bs

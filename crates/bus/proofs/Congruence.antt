@@ -4,7 +4,7 @@ use Rattle.std.proofs.lemmas.Bool.{eq-eqb, ne_eqb, cases_eq}
 use Rattle.bus.specs.Map.{AddressMap, Cell, every_from, judged, present, allowed, filled, written, put, value_at, stored_in}
 use Rattle.bus.specs.Laws.{Agree, Congruence}
 use Rattle.bus.specs.declared.kinds.Command.{Command}
-use Rattle.bus.specs.declared.kinds.Status.TheVariants.{Okay, AddressError, CommandError}
+use Rattle.bus.specs.Answers.{Okay, AddressError, CommandError}
 
 -- The first address of a span, and the others.
 agree_first : (m n : AddressMap) (a b k : ℕ) → Agree m n a b (suc k) → m a ≡ n b

@@ -4,7 +4,7 @@ use Rattle.bus.specs.Map.{AddressMap, Cell, every_from, judged, present, allowed
 use Rattle.bus.specs.Numbers.{worse}
 use Rattle.bus.specs.Laws.{Cutting}
 use Rattle.bus.specs.declared.kinds.Command.{Command}
-use Rattle.bus.specs.declared.kinds.Status.TheVariants.{Okay, AddressError, CommandError}
+use Rattle.bus.specs.Answers.{Okay, AddressError, CommandError}
 
 pub every_append : (p : Option Cell → Bool) (m : AddressMap) (a : ℕ) (es fs : List Bool) → every_from p m a (es ++ fs) ≡ cond (every_from p m a es) (every_from p m (a + length es) fs) false
 unfolding every_from

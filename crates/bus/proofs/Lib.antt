@@ -3,7 +3,11 @@ pub mod Congruence
 pub mod Stability
 pub mod Distance
 pub mod Laws
+pub mod Made
+pub mod Filling
 pub mod Marks
 pub mod Parts
+pub mod Absence
+pub mod Answered
 pub mod Beats
 pub mod Sofar

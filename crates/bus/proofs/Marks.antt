@@ -1,6 +1,7 @@
 -- Which bytes of a payload are enabled.
-use Rattle.std.proofs.Common.{◌≡◌, ℕ, zero, suc, ◌+◌, ◌%◌, ◌<◌, ◌≤◌, Bool, true, false, cond, ◌&&◌, eqb, List, length, get_or, take, drop, sym, refl, ap, ◌∙◌, add-zero, mod-lt, arith}
-use Rattle.std.proofs.lemmas.List.{length-take-le, get_or-take, ext_get_or, at_drop_more}
+use Rattle.std.proofs.Common.{◌≡◌, ℕ, zero, suc, ◌+◌, ◌%◌, ◌<◌, ◌≤◌, Bool, true, false, cond, ◌&&◌, eqb, List, [], ◌∷◌, length, get_or, take, sym, refl, ap, ◌∙◌, add-zero, mod-lt, arith}
+use Rattle.std.specs.List.{list_all}
+use Rattle.std.proofs.lemmas.List.{length-take-le, get_or-take, ext_get_or}
 use Rattle.std.proofs.lemmas.Bool.{cond-false, ne_eqb}
 use Rattle.bus.specs.Payload.{is_enable, only_enables, enabled_at, marks_from}
 
@@ -25,6 +26,6 @@ pub marks_all : (es : List ℕ) (n : ℕ) (marks : List Bool) → length marks �
 marks_all es n marks long each =
     ext_get_or false marks (marks_from es 0 n) (long ∙ sym (length_marks es 0 n)) (λ k l. let e : 0 + k ≡ k = omega arith in each k (omega arith) ∙ sym (ap (enabled_at es) e) ∙ sym (get_d_marks es 0 n k (omega arith)))
 
--- One byte more is an enable, or is none.
-pub enable_more : (bs : List ℕ) (i : ℕ) (b : Bool) → i < length bs → b ≡ is_enable (get_or bs i 0) → only_enables (drop i bs) ≡ (b && only_enables (drop (i + 1) bs))
-enable_more bs i b lt e = at_drop_more only_enables bs i 0 lt ∙ sym (ap (λ x. x && only_enables (drop (i + 1) bs)) e)
+pub only_enables_all : (bs : List ℕ) → list_all is_enable bs ≡ only_enables bs
+only_enables_all [] = refl
+only_enables_all (b ∷ bs) = ap (λ x. is_enable b && x) (only_enables_all bs)

@@ -9,8 +9,8 @@ use Rattle.bus.specs.Target.{if_okay, status_over, ReadAs, WrittenAs}
 use Rattle.bus.specs.Payload.{Access, marks_from, found_from, written_from}
 use Rattle.bus.specs.declared.kinds.Command.{Command}
 use Rattle.bus.specs.declared.kinds.Command.TheVariants.{Read, Write}
-use Rattle.bus.specs.declared.kinds.Status.TheVariants.{Okay, GenericError}
-use Rattle.bus.specs.declared.kinds.Outcome.{Outcome}
+use Rattle.bus.specs.Answers.{Okay, GenericError}
+use Rattle.bus.specs.Answers.{Outcome}
 use Rattle.bus.proofs.Marks.{length_marks}
 use Rattle.bus.proofs.Parts.{Partly, take_both, partly_rest, partly_more, partly_all}
 use Rattle.bus.proofs.Stability.{judged_written}
@@ -75,6 +75,14 @@ module _ (p : Access) (k i j : ℕ) (marks : List Bool) (wide : 1 ≤ p.width) (
       cond-true (eqb (length part) (length (cut i j marks))) (judged m c p.address (cut i j marks)) GenericError (eq-eqb (length part) (length (cut i j marks)) (long ∙ sym count))
       ∙ judged_shorter m c p.address (marks_from p.enables 0 (min p.width p.length)) (cut i j marks) shorter okay
 
+  pub read_okay : (m : AddressMap) (t : ℕ) (before buffer : List ℕ) (m₁ : AddressMap) (t₁ delay : ℕ) (r : Outcome) (after : List ℕ) (m₂ : AddressMap) (t₂ : ℕ) → length buffer ≡ p.length → Judged m Read p → ReadSofar p m t before k buffer m₁ t₁ delay → ReadAs m₁ t₁ a es (cut i j buffer) r after m₂ t₂ → r.status ≡ Okay
+  read_okay m t before buffer m₁ t₁ delay r after m₂ t₂ long okay sofar read =
+      read.status ∙ (λ u. status_over m₁ Read (at u) (of u) (cut i j buffer)) ∙ beat_status m₁ Read (cut i j buffer) (length_part buffer long) (subst (λ x. Judged x Read p) (sym sofar.same) okay)
+
+  pub write_okay : (m : AddressMap) (t : ℕ) (bytes : List ℕ) (m₁ : AddressMap) (t₁ delay : ℕ) (r : Outcome) (m₂ : AddressMap) (t₂ : ℕ) → length bytes ≡ p.length → WriteSofar p m t bytes k m₁ t₁ delay → WrittenAs m₁ t₁ a es (cut i j bytes) r m₂ t₂ → r.status ≡ Okay
+  write_okay m t bytes m₁ t₁ delay r m₂ t₂ long sofar write =
+      write.status ∙ (λ u. status_over m₁ Write (at u) (of u) (cut i j bytes)) ∙ beat_status m₁ Write (cut i j bytes) (length_part bytes long) sofar.judged
+
   pub read_more : (m : AddressMap) (t : ℕ) (before buffer : List ℕ) (m₁ : AddressMap) (t₁ delay : ℕ) (r : Outcome) (after : List ℕ) (m₂ : AddressMap) (t₂ : ℕ) → length before ≡ p.length → length buffer ≡ p.length → Judged m Read p → ReadSofar p m t before k buffer m₁ t₁ delay → ReadAs m₁ t₁ a es (cut i j buffer) r after m₂ t₂ → ReadSofar p m t before (k + 1) (put_mid i (j - i) buffer after) m₂ t₂ (delay + r.delay)
   read_more m t before buffer m₁ t₁ delay r after m₂ t₂ long₀ long okay sofar answered =
       let read : ReadAs m₁ t₁ p.address (cut i j marks) (cut i j buffer) r after m₂ t₂ = subst (λ x. ReadAs m₁ t₁ p.address x (cut i j buffer) r after m₂ t₂) of (subst (λ x. ReadAs m₁ t₁ x es (cut i j buffer) r after m₂ t₂) at answered) in
@@ -83,7 +91,7 @@ module _ (p : Access) (k i j : ℕ) (marks : List Bool) (wide : 1 ≤ p.width) (
       let partly : Partly final before buffer i = subst (Partly final before buffer) here sofar.bytes in
       let rest : drop i buffer ≡ drop i before = partly_rest final before buffer i (omega arith) partly in
       let size : length (cut i j before) ≡ j - i = length_part before long₀ in
-      let status : r.status ≡ Okay = read.status ∙ beat_status m₁ Read (cut i j buffer) (length_part buffer long) (subst (λ x. Judged x Read p) (sym sofar.same) okay) in
+      let status : r.status ≡ Okay = read_okay m t before buffer m₁ t₁ delay r after m₂ t₂ long okay sofar answered in
       let x : k * p.width + 0 ≡ i = omega arith in
       let y : 0 + i ≡ i = omega arith in
       let z : p.address + 0 ≡ p.address = omega arith in
@@ -106,7 +114,7 @@ module _ (p : Access) (k i j : ℕ) (marks : List Bool) (wide : 1 ≤ p.width) (
   write_more m t bytes m₁ t₁ delay r m₂ t₂ long sofar answered =
       let write : WrittenAs m₁ t₁ p.address (cut i j marks) (cut i j bytes) r m₂ t₂ = subst (λ x. WrittenAs m₁ t₁ p.address x (cut i j bytes) r m₂ t₂) of (subst (λ x. WrittenAs m₁ t₁ x es (cut i j bytes) r m₂ t₂) at answered) in
       let size : length (cut i j bytes) ≡ j - i = length_part bytes long in
-      let status : r.status ≡ Okay = write.status ∙ beat_status m₁ Write (cut i j bytes) size sofar.judged in
+      let status : r.status ≡ Okay = write_okay m t bytes m₁ t₁ delay r m₂ t₂ long sofar answered in
       let to_map : m₂ ≡ written p.address (cut i j marks) (cut i j bytes) m₁ = write.map_after ∙ ap (λ u. if_okay u (written p.address (cut i j marks) (cut i j bytes) m₁) m₁) status in
       let x : k * p.width + 0 ≡ i = omega arith in
       let z : p.address + 0 ≡ p.address = omega arith in

@@ -4,7 +4,7 @@ use Rattle.bus.specs.Map.{AddressMap, Cell, every_from, judged, present, allowed
 use Rattle.bus.specs.Laws.{Shape, shape, Stability}
 use Rattle.bus.specs.declared.kinds.Command.{Command}
 use Rattle.bus.specs.declared.kinds.Command.TheVariants.{Read, Write, Ignore}
-use Rattle.bus.specs.declared.kinds.Status.TheVariants.{Okay, AddressError, CommandError}
+use Rattle.bus.specs.Answers.{Okay, AddressError, CommandError}
 
 stored_shape : (v : ℕ) (o : Option Cell) → shape (stored_in v o) ≡ shape o
 stored_shape v None = refl

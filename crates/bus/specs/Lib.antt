@@ -1,3 +1,5 @@
+pub mod Answers
+pub mod Delay
 pub mod Numbers
 pub mod Map
 pub mod Target

@@ -2,8 +2,8 @@
 use Rattle.std.specs.Prelude.{ℕ, ◌+◌, ◌-◌, Bool, true, false, cond, List, [], ◌∷◌, Some, None, Option, ◌==◌, bit_and, bit_or}
 use Rattle.bus.specs.declared.kinds.Command.{Command}
 use Rattle.bus.specs.declared.kinds.Command.TheVariants.{Read, Write, Ignore}
-use Rattle.bus.specs.declared.kinds.Status.{Status}
-use Rattle.bus.specs.declared.kinds.Status.TheVariants.{Okay, AddressError, CommandError}
+use Rattle.bus.specs.Answers.{Status}
+use Rattle.bus.specs.Answers.{Okay, AddressError, CommandError}
 
 -- A byte that is present: its rights, its value and the mask of its writable bits.
 pub record Cell : Type 0 where

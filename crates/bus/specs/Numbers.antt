@@ -2,8 +2,8 @@
 use Rattle.std.specs.Prelude.{ℕ, Bool, true, false, cond, ℤ, pos, negsuc, Some, None, Option, ◌==◌}
 use Rattle.bus.specs.declared.kinds.Command.{Command}
 use Rattle.bus.specs.declared.kinds.Command.TheVariants.{Read, Write, Ignore}
-use Rattle.bus.specs.declared.kinds.Status.{Status}
-use Rattle.bus.specs.declared.kinds.Status.TheVariants.{Okay, AddressError, CommandError, GenericError}
+use Rattle.bus.specs.Answers.{Status}
+use Rattle.bus.specs.Answers.{Okay, AddressError, CommandError, GenericError}
 use Rattle.bus.specs.declared.kinds.Refusal.{Refusal}
 use Rattle.bus.specs.declared.kinds.Refusal.TheVariants.{UnknownPort, UnknownTag, BadCommand, BadLength, BadWidth, BadEnables, WrongDataLength, TagInUse, RequestOpen, TooLate, PastSyncPoint, NoOpenResponse, ShortBuffer, EventBeforeSync, BadSettings, PhaseNotReached}
 

@@ -6,7 +6,7 @@ use Rattle.bus.specs.declared.fields.Fields.{Fields}
 use Rattle.bus.specs.declared.payload.Payload.{Payload}
 use Rattle.bus.specs.declared.kinds.Command.{Command}
 use Rattle.bus.specs.declared.kinds.Command.TheVariants.{Read, Write, Ignore}
-use Rattle.bus.specs.declared.kinds.Status.{Status}
+use Rattle.bus.specs.Answers.{Status}
 use Rattle.bus.specs.declared.kinds.Refusal.{Refusal}
 use Rattle.bus.specs.declared.kinds.Refusal.TheVariants.{BadCommand, BadLength, BadWidth, BadEnables}
 

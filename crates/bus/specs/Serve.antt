@@ -2,8 +2,8 @@
 use Rattle.std.specs.Prelude.{◌≡◌, ℕ, ◌+◌, ◌*◌, ◌%◌, ◌^◌, ◌≤◌, List, length, MatchBool, ◌==◌}
 use Rattle.bus.specs.Map.{AddressMap}
 use Rattle.bus.specs.Payload.{Access, judged_access, buffer_served, map_served, beats_served}
-use Rattle.bus.specs.declared.kinds.Status.TheVariants.{GenericError}
-use Rattle.bus.specs.declared.kinds.Outcome.{Outcome}
+use Rattle.bus.specs.Answers.{GenericError}
+use Rattle.bus.specs.Answers.{Outcome}
 
 -- With a buffer of the payload's length. The delay is the sum of the beats' delays, each at most 1,000,000, and the
 -- growth of the meter; without a beat both stay.

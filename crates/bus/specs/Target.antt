@@ -3,9 +3,9 @@ use Rattle.std.specs.Prelude.{◌≡◌, ℕ, ◌+◌, ◌%◌, ◌^◌, ◌≤�
 use Rattle.bus.specs.Map.{AddressMap, judged, filled, written}
 use Rattle.bus.specs.declared.kinds.Command.{Command}
 use Rattle.bus.specs.declared.kinds.Command.TheVariants.{Read, Write}
-use Rattle.bus.specs.declared.kinds.Status.{Status}
-use Rattle.bus.specs.declared.kinds.Status.TheVariants.{Okay, AddressError, CommandError, GenericError}
-use Rattle.bus.specs.declared.kinds.Outcome.{Outcome}
+use Rattle.bus.specs.Answers.{Status}
+use Rattle.bus.specs.Answers.{Okay, AddressError, CommandError, GenericError}
+use Rattle.bus.specs.Answers.{Outcome}
 
 -- The first where the status is 1, else the second.
 abbrev pub if_okay {ℓ} : {A : Type ℓ} → Status → A → A → A

@@ -1,22 +1,22 @@
 // What a payload asks of a target.
-#[derive(Clone, Copy)]
+#[derive(Clone, Copy, Debug, PartialEq, Eq)]
 pub enum Command {
     Read,
     Write,
     Ignore,
 }
 
-// What a target answers.
-#[derive(Clone, Copy)]
-pub enum Status {
-    Okay,
-    AddressError,
-    CommandError,
-    GenericError,
+// Why a target does not serve an access: a byte of the span is not there, a byte gives no right to the command, or
+// the buffer or the data is not of the span's length.
+#[derive(Clone, Copy, Debug, PartialEq, Eq)]
+pub enum AccessError {
+    AbsentByte,
+    MissingRight,
+    WrongLength,
 }
 
 // Why a call is refused. A refused call moves nothing.
-#[derive(Clone, Copy)]
+#[derive(Clone, Copy, Debug, PartialEq, Eq)]
 pub enum Refusal {
     UnknownPort,
     UnknownTag,
@@ -34,11 +34,4 @@ pub enum Refusal {
     EventBeforeSync,
     BadSettings,
     PhaseNotReached,
-}
-
-// What a read, a write or a payload comes to. The delay counts in nanoseconds.
-#[derive(Clone, Copy)]
-pub struct Outcome {
-    pub status: Status,
-    pub delay: u64,
 }

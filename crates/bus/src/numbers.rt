@@ -1,60 +1,42 @@
-ghost use Rattle.std.specs.Prelude.{◌≡◌};
-ghost use Rattle.bus.specs.Numbers.{command_number, numbered, status_number, is_okay, refusal_number, worse};
+ghost use Rattle.std.specs.Prelude.{◌≡◌, MatchResult, Some, None};
+ghost use Rattle.bus.specs.Answers.{error_status, status_of};
+ghost use Rattle.bus.specs.Numbers.{command_number, numbered, status_number, refusal_number, worse};
+ghost use Rattle.bus.specs.declared.kinds.Refusal.TheVariants.{BadCommand};
 
-use crate::kinds::{Command, Refusal, Status};
+use crate::kinds::{AccessError, Command, Refusal};
 
-impl Command {
-    // The command of a number, if there is one.
-    pub fn numbered(number: u8) -> Option<Command>
-        ensures { result ≡ numbered number }
-    {
+impl TryFrom<u8> for Command {
+    type Error = Refusal;
+
+    ghost try_from_gives = { λ number r. MatchResult r (λ command. numbered number ≡ Some command) (λ e. (numbered number ≡ None) × (e ≡ BadCommand)) };
+
+    fn try_from(number: u8) -> Result<Command, Refusal> {
         match number {
-            0 => Some(Command::Read),
-            1 => Some(Command::Write),
-            2 => Some(Command::Ignore),
-            _ => None,
+            0 => Ok(Command::Read),
+            1 => Ok(Command::Write),
+            2 => Ok(Command::Ignore),
+            _ => Err(Refusal::BadCommand),
         }
     }
 }
 
-impl Status {
-    pub fn number(self) -> i32
-        ensures { result ≡ status_number self }
-    {
-        match self {
-            Status::Okay => 1,
-            Status::AddressError => -2,
-            Status::CommandError => -3,
-            Status::GenericError => -1,
-        }
-    }
+impl From<AccessError> for i32 {
+    ghost from_gives = { λ e n. n ≡ status_number (error_status e) };
 
-    pub fn is_okay(self) -> bool
-        ensures { result ≡ is_okay self }
-    {
-        match self {
-            Status::Okay => true,
-            _ => false,
-        }
-    }
-
-    // What a whole answers whose parts answer these two: an absent byte goes before a missing right.
-    pub fn worse(self, other: Status) -> Status
-        ensures { result ≡ worse self other }
-    {
-        match (self, other) {
-            (Status::Okay, _) => other,
-            (Status::CommandError, Status::AddressError) => other,
-            (_, _) => self,
+    fn from(error: AccessError) -> i32 {
+        match error {
+            AccessError::AbsentByte => -2,
+            AccessError::MissingRight => -3,
+            AccessError::WrongLength => -1,
         }
     }
 }
 
-impl Refusal {
-    pub fn number(self) -> u8
-        ensures { result ≡ refusal_number self }
-    {
-        match self {
+impl From<Refusal> for u8 {
+    ghost from_gives = { λ e n. n ≡ refusal_number e };
+
+    fn from(refusal: Refusal) -> u8 {
+        match refusal {
             Refusal::UnknownPort => 1,
             Refusal::UnknownTag => 2,
             Refusal::BadCommand => 3,
@@ -72,5 +54,29 @@ impl Refusal {
             Refusal::BadSettings => 15,
             Refusal::PhaseNotReached => 16,
         }
+    }
+}
+
+// The standard's number of what a target answers.
+pub fn status_number(answer: Result<(), AccessError>) -> i32
+    ensures { result ≡ status_number (status_of answer) }
+{
+    match answer {
+        Ok(()) => 1,
+        Err(error) => i32::from(error),
+    }
+}
+
+// What a whole answers whose parts answer these two: an absent byte goes before a missing right.
+pub fn worse(
+    first: Result<(), AccessError>,
+    second: Result<(), AccessError>,
+) -> Result<(), AccessError>
+    ensures { status_of result ≡ worse (status_of first) (status_of second) }
+{
+    match (first, second) {
+        (Ok(()), _) => second,
+        (Err(AccessError::MissingRight), Err(AccessError::AbsentByte)) => second,
+        (_, _) => first,
     }
 }

@@ -4,6 +4,7 @@ ghost use Rattle.bus.specs.Payload.{raw, access, idle_access, ill_made, access_o
 use crate::fields::Fields;
 use crate::kinds::{Command, Refusal};
 use crate::payload::Payload;
+use std::array;
 
 fn is_enable(byte: u8) -> bool
     ensures { result ≡ is_enable byte }
@@ -22,12 +23,7 @@ fn is_set(enable: u8) -> bool
 fn only_enables(bytes: &[u8]) -> bool
     ensures { result ≡ only_enables bytes.now }
 {
-    for byte in bytes {
-        if !is_enable(*byte) {
-            return false;
-        }
-    }
-    true
+    bytes.iter().all(|byte| is_enable(*byte))
 }
 
 // The bytes, and zeros after them.
@@ -45,9 +41,7 @@ impl Payload {
     pub fn new(fields: Fields<'_>) -> Result<Payload, Refusal>
         ensures { MatchResult result (λ p. (ill_made (raw fields.entry) ≡ None) × (access p ≡ access_of (raw fields.entry))) (λ e. ill_made (raw fields.entry) ≡ Some e) }
     {
-        let Some(command) = Command::numbered(fields.command) else {
-            return Err(Refusal::BadCommand);
-        };
+        let command = Command::try_from(fields.command)?;
         if fields.length == 0 || fields.length > 64 {
             return Err(Refusal::BadLength);
         }
@@ -105,11 +99,7 @@ impl Payload {
     pub(crate) fn marks(&self) -> [bool; 64]
         ensures { result ≡ marks_from (access self.now).enables 0 64 }
     {
-        let mut marks = [false; 64];
-        for i in 0..64 {
-            marks[i] = self.enabled(i);
-        }
-        marks
+        array::from_fn(|i| self.enabled(i))
     }
 
     // How many bytes from its address on a payload reaches.

@@ -3,10 +3,10 @@ ghost use Rattle.bus.specs.Laws.{Laws};
 ghost use Rattle.bus.specs.Map.{judged};
 ghost use Rattle.bus.specs.Payload.{access, judged_access, marks_from, found_from, written_from};
 ghost use Rattle.bus.specs.Serve.{Serves};
-ghost use Rattle.bus.specs.declared.kinds.Status.TheVariants.{Okay};
+ghost use Rattle.bus.specs.Answers.{Okay, outcome_of, status_of};
 ghost use Rattle.bus.specs.declared.kinds.Command.TheVariants.{Read, Write};
 
-use crate::kinds::{Command, Outcome, Status};
+use crate::kinds::{AccessError, Command};
 use crate::payload::Payload;
 use crate::span::Span;
 use crate::target::Target;
@@ -49,7 +49,7 @@ fn read_beats<T: Target>(target: &mut T, payload: &Payload, buffer: &mut [u8]) -
     for k in 0..payload.beats() {
         let (from, to) = beat(payload, k);
         let span = beat_span(payload, &marks, from, to);
-        delay += target.read(span, &mut buffer[from..to]).delay;
+        delay += target.read(span, &mut buffer[from..to]).unwrap();
     }
     delay
 }
@@ -67,14 +67,14 @@ fn write_beats<T: Target>(target: &mut T, payload: &Payload, bytes: &[u8]) -> u6
     for k in 0..payload.beats() {
         let (from, to) = beat(payload, k);
         let span = beat_span(payload, &marks, from, to);
-        delay += target.write(span, &bytes[from..to]).delay;
+        delay += target.write(span, &bytes[from..to]).unwrap();
     }
     delay
 }
 
-// The status of a payload, over the bytes that it reaches.
-fn judge_payload<T: Target>(target: &T, payload: &Payload) -> Status
-    ensures { result ≡ judged_access (T.map target.now) (access payload.now) }
+// How a payload is judged, over the bytes that it reaches.
+fn judge_payload<T: Target>(target: &T, payload: &Payload) -> Result<(), AccessError>
+    ensures { status_of result ≡ judged_access (T.map target.now) (access payload.now) }
 {
     let marks = payload.marks();
     let span = Span {
@@ -85,32 +85,33 @@ fn judge_payload<T: Target>(target: &T, payload: &Payload) -> Status
 }
 
 // Judges a payload once, and with status 1 moves its bytes beat by beat.
-fn judge_and_move<T: Target>(target: &mut T, payload: &Payload, buffer: &mut [u8]) -> Outcome
-    ensures { Serves (T.map target.old) (T.meter target.old) (access payload.now) buffer.old result buffer.new (T.map target.new) (T.meter target.new) }
+fn judge_and_move<T: Target>(
+    target: &mut T,
+    payload: &Payload,
+    buffer: &mut [u8],
+) -> Result<u64, AccessError>
+    ensures { Serves (T.map target.old) (T.meter target.old) (access payload.now) buffer.old (outcome_of result) buffer.new (T.map target.new) (T.meter target.new) }
 {
     if buffer.len() != payload.length {
-        return Outcome {
-            status: Status::GenericError,
-            delay: 0,
-        };
+        return Err(AccessError::WrongLength);
     }
-    let status = judge_payload(target, payload);
-    if !status.is_okay() {
-        return Outcome { status, delay: 0 };
-    }
-    let delay = match payload.command {
+    judge_payload(target, payload)?;
+    Ok(match payload.command {
         Command::Read => read_beats(target, payload, buffer),
         Command::Write => write_beats(target, payload, buffer),
         Command::Ignore => 0,
-    };
-    Outcome { status, delay }
+    })
 }
 
-// Serves a payload: it is judged once, and with status 1 its beats move their bytes in ascending
-// order. An IGNORE is only judged. What is judged, filled and written obeys the laws.
-pub fn serve<T: Target>(target: &mut T, payload: &Payload, buffer: &mut [u8]) -> Outcome
+// Serves a payload, and answers the delay: it is judged once, and with status 1 its beats move their bytes in
+// ascending order. An IGNORE is only judged. What is judged, filled and written obeys the laws.
+pub fn serve<T: Target>(
+    target: &mut T,
+    payload: &Payload,
+    buffer: &mut [u8],
+) -> Result<u64, AccessError>
     ensures laws { Laws }
-    ensures serves { Serves (T.map target.old) (T.meter target.old) (access payload.now) buffer.old result buffer.new (T.map target.new) (T.meter target.new) }
+    ensures serves { Serves (T.map target.old) (T.meter target.old) (access payload.now) buffer.old (outcome_of result) buffer.new (T.map target.new) (T.meter target.new) }
 {
     judge_and_move(target, payload, buffer)
 }

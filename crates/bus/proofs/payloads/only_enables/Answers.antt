@@ -1,16 +1,9 @@
-use Rattle.std.proofs.Common.{true, false, sym, ◌∙◌}
-use Rattle.std.proofs.lemmas.List.{at_drop_all}
-use Rattle.bus.specs.Payload.{only_enables}
-use Rattle.bus.proofs.Marks.{enable_more}
+use Rattle.std.proofs.Common.{rules, ◌∙◌}
+use Rattle.std.proofs.lemmas.Iterator.{YieldsList-from_slice}
+use Rattle.std.proofs.lemmas.Iterator.Search.{all_from_yields_List}
+use Rattle.bus.specs.Payload.{is_enable}
+use Rattle.bus.proofs.Marks.{only_enables_all}
 use Rattle.bus.proofs.payloads.only_enables.Goals as goal
 
-pub returns-then-not-is_enable : goal.returns-then-not-is_enable
-returns-then-not-is_enable c =
-    sym (enable_more c.args.bytes.now c.loop-byte.byte-index false c.loop-byte-test.true c.if-not-is_enable.ensures) ∙ c.loop-byte.invariant
-
-pub loop-byte-preserved : goal.loop-byte-preserved
-loop-byte-preserved c =
-    sym (enable_more c.args.bytes.now c.loop-byte.byte-index true c.loop-byte-test.true c.if-not-is_enable.ensures) ∙ c.loop-byte.invariant
-
 pub returns : goal.returns
-returns c = sym (at_drop_all only_enables c.args.bytes.now c.loop-byte.byte-index c.loop-byte-test.false) ∙ c.loop-byte.invariant
+returns c = all_from_yields_List is_enable _ _ c.all.result c.all.ensures.ran (YieldsList-from_slice c.args.bytes.now cc) (λ x b q k. search rules) ∙ only_enables_all c.args.bytes.now
