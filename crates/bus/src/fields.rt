@@ -1,5 +1,5 @@
-// The fields of a payload as a caller gives them, in range or not.
-#[derive(Clone, Copy)]
+// The fields of a payload as a caller gives them, in range or not. The command is a number, since any may be given.
+#[derive(Clone, Copy, Debug, PartialEq, Eq)]
 pub struct Fields<'a> {
     pub command: u8,
     pub address: u32,

@@ -2,8 +2,9 @@ ghost use Rattle.std.specs.Prelude.{◌≤◌};
 
 use crate::kinds::Command;
 
-// A payload whose fields are all in range. `Payload::new` and `Payload::idle` make them.
-#[derive(Clone, Copy)]
+// A payload whose fields are all in range. It is made of `Fields` by `try_from`, or by `Payload::idle`. The enables are an
+// array with a count, and no `ArrayVec`, so that a payload can be copied.
+#[derive(Clone, Copy, Debug)]
 pub struct Payload {
     pub(crate) command: Command,
     pub(crate) address: u32,

@@ -36,11 +36,13 @@ fn padded(bytes: &[u8]) -> [u8; 64]
     all
 }
 
-impl Payload {
-    // The payload of the fields, or the first of the refusals 3, 4, 5 and 6 that they earn.
-    pub fn new(fields: Fields<'_>) -> Result<Payload, Refusal>
-        ensures { MatchResult result (λ p. (ill_made (raw fields.entry) ≡ None) × (access p ≡ access_of (raw fields.entry))) (λ e. ill_made (raw fields.entry) ≡ Some e) }
-    {
+// The payload of the fields, or the first of the refusals 3, 4, 5 and 6 that they earn.
+impl TryFrom<Fields<'_>> for Payload {
+    type Error = Refusal;
+
+    ghost try_from_gives = { λ fields r. MatchResult r (λ p. (ill_made (raw fields) ≡ None) × (access p ≡ access_of (raw fields))) (λ e. ill_made (raw fields) ≡ Some e) };
+
+    fn try_from(fields: Fields<'_>) -> Result<Payload, Refusal> {
         let command = Command::try_from(fields.command)?;
         if fields.length == 0 || fields.length > 64 {
             return Err(Refusal::BadLength);
@@ -60,7 +62,9 @@ impl Payload {
             enables: padded(fields.enables),
         })
     }
+}
 
+impl Payload {
     // A payload that only has its address judged: what stands where none is asked for yet.
     pub fn idle() -> Payload
         ensures { access result ≡ idle_access }

@@ -35,7 +35,8 @@ fn beat_span<'a>(payload: &Payload, marks: &'a [bool], from: usize, to: usize) -
     }
 }
 
-// Reads a payload that is judged 1, beat by beat, each on its own part of the buffer.
+// Reads a payload that is judged 1, beat by beat, each on its own part of the buffer. The beats are counted, since of a
+// buffer that is lent out by `chunks_mut` a proof knows afterwards only how long it is.
 fn read_beats<T: Target>(target: &mut T, payload: &Payload, buffer: &mut [u8]) -> u64
     requires length { length buffer.old ≡ payload.now.length }
     requires judged { judged (T.map target.old) Read payload.now.address (marks_from (access payload.now).enables 0 (min payload.now.width payload.now.length)) ≡ Okay }
@@ -54,7 +55,8 @@ fn read_beats<T: Target>(target: &mut T, payload: &Payload, buffer: &mut [u8]) -
     delay
 }
 
-// Writes a payload that is judged 1, beat by beat, each with its own part of the data.
+// Writes a payload that is judged 1, beat by beat, each with its own part of the data. One function for both would be no
+// shorter: it would need a type for a buffer that is lent and one for data that is shown, and a clause for each.
 fn write_beats<T: Target>(target: &mut T, payload: &Payload, bytes: &[u8]) -> u64
     requires length { length bytes.now ≡ payload.now.length }
     requires judged { judged (T.map target.old) Write payload.now.address (marks_from (access payload.now).enables 0 (min payload.now.width payload.now.length)) ≡ Okay }
