@@ -10,9 +10,6 @@ use Rattle.bus.proofs.serving.write_beats.Goals as goal
 pub loop-k-init : goal.loop-k-init
 loop-k-init g c = write_none (access c.args.payload.now) (g.T.Target.map c.args.target.now) (g.T.Target.meter c.args.target.now) c.args.bytes.now c.requires.judged
 
-pub beat-from-requires : goal.beat-from-requires
-beat-from-requires g c = beat_begins c.args.payload.now.length c.args.payload.now.width c.loop-k.k (omega arith) (omega arith)
-
 pub unwrap-delay-requires : goal.unwrap-delay-requires
 unwrap-delay-requires g c =
     okay_served c.write.result
