@@ -1,5 +1,6 @@
 -- A platform and its answers as the rules of the calls see them.
 use Rattle.std.specs.Prelude.{ℕ, List, Ok, Err, Result}
+use Rattle.bus.specs.Answers.{status_of}
 use Rattle.bus.specs.Map.{AddressMap}
 use Rattle.bus.specs.declared.kinds.Refusal.{Refusal}
 use Rattle.protocol.specs.Runs.{State, Answer, refused, served, synced}
@@ -11,7 +12,7 @@ abbrev pub state : {T : Type 0} → (T → AddressMap) → (T → ℕ) → Platf
 state map meter p = record { ports = p.settings.ports; accept = p.settings.accept; quantum = p.settings.quantum; now = p.now; locals = p.locals; map = map p.target; meter = meter p.target }
 
 abbrev pub blocking_answer : Result Blocked Refusal → List ℕ → Answer
-blocking_answer (Ok b) buffer = served b.local b.status buffer
+blocking_answer (Ok b) buffer = served b.local (status_of b.status) buffer
 blocking_answer (Err e) buffer = refused e
 
 abbrev pub sync_answer : Result ℕ Refusal → Answer

@@ -1,8 +1,8 @@
-use bus::Status;
+use bus::AccessError;
 
-// What an accepted blocking call comes to: the port's local time after it, and the status.
-#[derive(Clone, Copy)]
+// What an accepted blocking call comes to: the port's local time after it, and whether its payload was served.
+#[derive(Clone, Copy, Debug, PartialEq, Eq)]
 pub struct Blocked {
     pub local: u64,
-    pub status: Status,
+    pub status: Result<(), AccessError>,
 }

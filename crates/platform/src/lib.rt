@@ -2,6 +2,7 @@
 
 mod answers;
 mod platform;
+mod port;
 
 pub use answers::Blocked;
 pub use platform::Platform;

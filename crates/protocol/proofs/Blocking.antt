@@ -9,10 +9,10 @@ use Rattle.bus.specs.Serve.{ServedAs, Unserved, Serves}
 use Rattle.bus.specs.Target.{if_okay}
 use Rattle.bus.proofs.Beats.{few_beats}
 use Rattle.bus.specs.declared.kinds.Command.TheVariants.{Read, Write, Ignore}
-use Rattle.bus.specs.declared.kinds.Status.{Status}
-use Rattle.bus.specs.declared.kinds.Status.TheVariants.{Okay, AddressError, CommandError, GenericError}
+use Rattle.bus.specs.Answers.{Status}
+use Rattle.bus.specs.Answers.{Okay, AddressError, CommandError, GenericError}
 use Rattle.bus.specs.declared.kinds.Refusal.{Refusal}
-use Rattle.bus.specs.declared.kinds.Outcome.{Outcome}
+use Rattle.bus.specs.Answers.{Outcome}
 use Rattle.protocol.specs.Runs.{State, Answer, served}
 use Rattle.protocol.specs.Rules.{start_of, or_else, blocking_refusal, Blocked, Unless}
 

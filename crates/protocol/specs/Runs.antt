@@ -3,7 +3,7 @@ use Rattle.std.specs.Prelude.{ℕ, List}
 use Rattle.bus.specs.Map.{AddressMap}
 use Rattle.bus.specs.Payload.{Raw}
 use Rattle.bus.specs.declared.kinds.Refusal.{Refusal}
-use Rattle.bus.specs.declared.kinds.Status.{Status}
+use Rattle.bus.specs.Answers.{Status}
 
 pub data Call : Type 0 where
   blocking : (port : ℕ) → Raw → (buffer : List ℕ) → Call

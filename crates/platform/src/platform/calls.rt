@@ -1,4 +1,5 @@
 ghost use Rattle.std.specs.Prelude.{◌≡◌, ℕ, ◌+◌, ◌^◌, ◌<◌, ◌≤◌, max, true, length, is_err, Some, None, MatchResult, slice_set};
+ghost use Rattle.bus.specs.Answers.{status_of, outcome_of};
 ghost use Rattle.bus.specs.Payload.{raw, access, access_of};
 ghost use Rattle.bus.specs.declared.kinds.Refusal.TheVariants.{UnknownPort};
 ghost use Rattle.protocol.specs.Settings.{asked};
@@ -8,8 +9,12 @@ ghost use Rattle.platform.specs.States.{state, blocking_answer, sync_answer};
 
 use super::Platform;
 use crate::answers::Blocked;
-use bus::{Fields, Outcome, Payload, Refusal, Target, serve};
+use crate::port::Port;
+use bus::{AccessError, Fields, Payload, Refusal, Target, serve};
 use protocol::Settings;
+
+// 2^40: no call starts later.
+const LAST_START: u64 = 1_099_511_627_776;
 
 impl<T: Target> Platform<T> {
     // A new platform over an interconnect.
@@ -25,22 +30,23 @@ impl<T: Target> Platform<T> {
         }
     }
 
-    fn known(&self, port: u64) -> Result<(), Refusal>
-        ensures { MatchResult result (λ _. port < self.entry.now.settings.ports) (λ e. (self.entry.now.settings.ports ≤ port) × (e ≡ UnknownPort)) }
+    // The port of a number, if the platform has it.
+    fn port(&self, number: u64) -> Result<Port, Refusal>
+        ensures { MatchResult result (λ port. (port.index ≡ number) × (number < self.entry.now.settings.ports)) (λ e. (self.entry.now.settings.ports ≤ number) × (e ≡ UnknownPort)) }
     {
-        if port >= self.settings.ports {
-            Err(Refusal::UnknownPort)
-        } else {
-            Ok(())
+        if number >= self.settings.ports {
+            return Err(Refusal::UnknownPort);
         }
+        Ok(Port {
+            index: number as usize,
+        })
     }
 
     // When a call of the port takes place.
-    fn start_of(&self, port: u64) -> u64
-        requires { port < 8 }
-        ensures { result ≡ start_of (state T.Target.map T.Target.meter self.entry.now) port }
+    fn start_of(&self, port: Port) -> u64
+        ensures { result ≡ start_of (state T.Target.map T.Target.meter self.entry.now) port.index }
     {
-        self.now.max(self.locals[port as usize])
+        self.now.max(self.locals[port.index])
     }
 
     // The next sync point after the platform's time.
@@ -50,52 +56,57 @@ impl<T: Target> Platform<T> {
         (self.now / self.settings.quantum + 1) * self.settings.quantum
     }
 
-    // The payload of a blocking call with a buffer of that size, or the first refusal that it earns.
-    fn admit(&self, port: u64, fields: Fields<'_>, size: usize) -> Result<Payload, Refusal>
-        ensures { MatchResult result (λ p. (blocking_refusal (state T.Target.map T.Target.meter self.entry.now) port (raw fields.entry) size ≡ None) × (access p ≡ access_of (raw fields.entry))) (λ e. blocking_refusal (state T.Target.map T.Target.meter self.entry.now) port (raw fields.entry) size ≡ Some e) }
+    // The port and the payload of a blocking call with a buffer of that size, or the first refusal that it earns.
+    fn admit(
+        &self,
+        number: u64,
+        fields: Fields<'_>,
+        size: usize,
+    ) -> Result<(Port, Payload), Refusal>
+        ensures { MatchResult result (λ a. (blocking_refusal (state T.Target.map T.Target.meter self.entry.now) number (raw fields.entry) size ≡ None) × (a.0.index ≡ number) × (access a.1 ≡ access_of (raw fields.entry))) (λ e. blocking_refusal (state T.Target.map T.Target.meter self.entry.now) number (raw fields.entry) size ≡ Some e) }
     {
-        self.known(port)?;
+        let port = self.port(number)?;
         let payload = Payload::new(fields)?;
         if size as u64 != fields.length {
             return Err(Refusal::WrongDataLength);
         }
         let start = self.start_of(port);
-        if start > 1_099_511_627_776 {
+        if start > LAST_START {
             return Err(Refusal::TooLate);
         }
         if start >= self.sync_point() {
             return Err(Refusal::PastSyncPoint);
         }
-        Ok(payload)
+        Ok((port, payload))
     }
 
-    // What a blocking call comes to that took so long from its start: the port's local time moves on.
-    fn settle(&mut self, port: u64, start: u64, outcome: Outcome) -> Blocked
-        requires { (port < 8) × (start ≤ 2 ^ 40) × (outcome.delay ≤ 64000000) }
-        ensures answer { result ≡ record { local = start + outcome.delay; status = outcome.status } }
-        ensures locals { self.exit.now.locals ≡ slice_set self.entry.now.locals port (start + outcome.delay) }
+    // What a blocking call comes to that was answered so at its start: the port's local time moves on.
+    fn settle(&mut self, port: Port, start: u64, served: Result<u64, AccessError>) -> Blocked
+        requires { (start ≤ 2 ^ 40) × ((outcome_of served).delay ≤ 64000000) }
+        ensures local { result.local ≡ start + (outcome_of served).delay }
+        ensures status { status_of result.status ≡ (outcome_of served).status }
+        ensures locals { self.exit.now.locals ≡ slice_set self.entry.now.locals port.index result.local }
         ensures settings { self.exit.now.settings ≡ self.entry.now.settings }
         ensures time { self.exit.now.now ≡ self.entry.now.now }
         ensures target { self.exit.now.target ≡ self.entry.now.target }
     {
-        let local = start + outcome.delay;
-        self.locals[port as usize] = local;
+        let local = start + served.unwrap_or(0);
+        self.locals[port.index] = local;
         Blocked {
             local,
-            status: outcome.status,
+            status: served.map(|_| ()),
         }
     }
 
     // Serves the payload of a call that no check refuses.
-    fn serve_now(&mut self, port: u64, payload: &Payload, buffer: &mut [u8]) -> Blocked
-        requires known { port < self.now.settings.ports }
-        requires early { start_of (state T.Target.map T.Target.meter self.now) port ≤ 2 ^ 40 }
+    fn serve_now(&mut self, port: Port, payload: &Payload, buffer: &mut [u8]) -> Blocked
+        requires early { start_of (state T.Target.map T.Target.meter self.now) port.index ≤ 2 ^ 40 }
         requires whole { length buffer.old ≡ payload.now.length }
-        ensures { BlockedBy (state T.Target.map T.Target.meter self.entry.now) port (access payload.now) buffer.old (served result.local result.status buffer.new) (state T.Target.map T.Target.meter self.exit.now) }
+        ensures { BlockedBy (state T.Target.map T.Target.meter self.entry.now) port.index (access payload.now) buffer.old (served result.local (status_of result.status) buffer.new) (state T.Target.map T.Target.meter self.exit.now) }
     {
         let start = self.start_of(port);
-        let outcome = serve(&mut self.target, payload, buffer);
-        self.settle(port, start, outcome)
+        let served = serve(&mut self.target, payload, buffer);
+        self.settle(port, start, served)
     }
 
     // Serves a payload at once, at the port's start time. A WRITE takes its data from the buffer, a READ fills it.
@@ -108,10 +119,8 @@ impl<T: Target> Platform<T> {
         ensures rule { Answered (state T.Target.map T.Target.meter self.entry.now) (blocking port (raw fields.entry) buffer.old) (blocking_answer result buffer.new) (state T.Target.map T.Target.meter self.exit.now) }
         ensures refused_moves_nothing { is_err result ≡ true → (self.exit.now ≡ self.entry.now) × (buffer.new ≡ buffer.old) }
     {
-        match self.admit(port, fields, buffer.len()) {
-            Ok(payload) => Ok(self.serve_now(port, &payload, buffer)),
-            Err(refusal) => Err(refusal),
-        }
+        let (port, payload) = self.admit(port, fields, buffer.len())?;
+        Ok(self.serve_now(port, &payload, buffer))
     }
 
     // Moves the platform's time up to the port's local time.
@@ -119,7 +128,7 @@ impl<T: Target> Platform<T> {
         ensures rule { Answered (state T.Target.map T.Target.meter self.entry.now) (sync port) (sync_answer result) (state T.Target.map T.Target.meter self.exit.now) }
         ensures refused_moves_nothing { is_err result ≡ true → self.exit.now ≡ self.entry.now }
     {
-        self.known(port)?;
+        let port = self.port(port)?;
         self.now = self.start_of(port);
         Ok(self.now)
     }
