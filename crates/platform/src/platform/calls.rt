@@ -66,7 +66,7 @@ impl<T: Target> Platform<T> {
         ensures { MatchResult result (λ a. (blocking_refusal (state T.Target.map T.Target.meter self.entry.now) number (raw fields.entry) size ≡ None) × (a.0.index ≡ number) × (access a.1 ≡ access_of (raw fields.entry))) (λ e. blocking_refusal (state T.Target.map T.Target.meter self.entry.now) number (raw fields.entry) size ≡ Some e) }
     {
         let port = self.port(number)?;
-        let payload = Payload::new(fields)?;
+        let payload = Payload::try_from(fields)?;
         if size as u64 != fields.length {
             return Err(Refusal::WrongDataLength);
         }
