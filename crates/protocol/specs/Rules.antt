@@ -4,7 +4,7 @@ use Rattle.bus.specs.Map.{AddressMap}
 use Rattle.bus.specs.Payload.{Raw, Access, access_of, ill_made, first, judged_access, buffer_served, map_served, beats_served}
 use Rattle.bus.specs.declared.kinds.Refusal.{Refusal}
 use Rattle.bus.specs.declared.kinds.Refusal.TheVariants.{UnknownPort, WrongDataLength, TooLate, PastSyncPoint}
-use Rattle.protocol.specs.Settings.{Asked}
+use Rattle.protocol.specs.declared.settings.Asked.{Asked}
 use Rattle.protocol.specs.declared.events.Event.{Event}
 use Rattle.protocol.specs.Runs.{Call, blocking, sync, Answer, refused, served, synced, State}
 

@@ -1,15 +1,9 @@
 -- The settings of a platform, in range or refused with 15.
-use Rattle.std.specs.Prelude.{ℕ, ◌^◌, Bool, cond, ◌||◌, Ok, Err, Result, ◌==◌, nat_lt}
+use Rattle.std.specs.Prelude.{◌^◌, Bool, cond, ◌||◌, Ok, Err, Result, ◌==◌, nat_lt}
 use Rattle.bus.specs.declared.kinds.Refusal.{Refusal}
 use Rattle.bus.specs.declared.kinds.Refusal.TheVariants.{BadSettings}
+use Rattle.protocol.specs.declared.settings.Asked.{Asked}
 use Rattle.protocol.specs.declared.settings.Settings.{Settings}
-
--- Settings as they are asked for.
-pub record Asked : Type 0 where
-  pub ports : ℕ
-  pub accept : ℕ
-  pub quantum : ℕ
-  pub start : ℕ
 
 abbrev pub asked : Settings → Asked
 asked s = record { ports = s.ports; accept = s.accept; quantum = s.quantum; start = s.start }

@@ -6,4 +6,4 @@ mod numbers;
 mod settings;
 
 pub use events::{Event, EventKind, Progress};
-pub use settings::Settings;
+pub use settings::{Asked, Settings};

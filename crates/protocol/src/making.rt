@@ -1,14 +1,22 @@
 ghost use Rattle.std.specs.Prelude.{◌≡◌};
 ghost use Rattle.protocol.specs.Settings.{plainly, settled};
 
-use crate::settings::Settings;
+use crate::settings::{Asked, Settings};
 use bus::Refusal;
 
-impl Settings {
-    // The settings, or refusal 15 where one is out of range.
-    pub fn new(ports: u64, accept: u64, quantum: u64, start: u64) -> Result<Settings, Refusal>
-        ensures { plainly result ≡ settled (record { ports = ports; accept = accept; quantum = quantum; start = start }) }
-    {
+// The settings, or refusal 15 where one is out of range.
+impl TryFrom<Asked> for Settings {
+    type Error = Refusal;
+
+    ghost try_from_gives = { λ asked result. plainly result ≡ settled asked };
+
+    fn try_from(asked: Asked) -> Result<Settings, Refusal> {
+        let Asked {
+            ports,
+            accept,
+            quantum,
+            start,
+        } = asked;
         if ports == 0 || ports > 8 || accept > 1_000 {
             return Err(Refusal::BadSettings);
         }

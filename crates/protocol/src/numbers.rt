@@ -3,11 +3,11 @@ ghost use Rattle.protocol.specs.Numbers.{progress_number};
 
 use crate::events::Progress;
 
-impl Progress {
-    pub fn number(self) -> u8
-        ensures { result ≡ progress_number self }
-    {
-        match self {
+impl From<Progress> for u8 {
+    ghost from_gives = { λ progress number. number ≡ progress_number progress };
+
+    fn from(progress: Progress) -> u8 {
+        match progress {
             Progress::Accepted => 0,
             Progress::Completed => 2,
         }

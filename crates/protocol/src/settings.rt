@@ -1,7 +1,16 @@
 ghost use Rattle.std.specs.Prelude.{◌^◌, ◌≤◌};
 
-// What a platform is made with, all in range. Times count in nanoseconds.
-#[derive(Clone, Copy)]
+// Settings as they are asked for, in range or not. Times count in nanoseconds.
+#[derive(Clone, Copy, Debug, PartialEq, Eq)]
+pub struct Asked {
+    pub ports: u64,
+    pub accept: u64,
+    pub quantum: u64,
+    pub start: u64,
+}
+
+// What a platform is made with, all in range.
+#[derive(Clone, Copy, Debug, PartialEq, Eq)]
 pub struct Settings {
     pub ports: u64,
     pub accept: u64,
