@@ -1,5 +1,6 @@
 -- The rule of each call.
 use Rattle.std.specs.Prelude.{◌≡◌, ℕ, ◌+◌, ◌*◌, ◌/◌, ◌%◌, ◌^◌, ◌<◌, ◌≤◌, max, Bool, true, false, not, ◌&&◌, ◌||◌, List, [], ◌∷◌, ◌++◌, length, replicate, Some, None, MatchBool, Option, MatchOption, ◌==◌, nat_le, nat_lt, slice_index, slice_set}
+use Rattle.std.specs.List.{All}
 use Rattle.bus.specs.Map.{AddressMap}
 use Rattle.bus.specs.Payload.{Raw, Access, access_of, ill_made, first, judged_access, buffer_served, map_served, beats_served}
 use Rattle.bus.specs.declared.kinds.Refusal.{Refusal}
@@ -62,11 +63,6 @@ Unless r s a s' accepted = MatchOption r accepted (λ e. (a ≡ refused e) × (s
 abbrev pub Answered : (s : State) → Call → (a : Answer) (s' : State) → Type 0
 Answered s (blocking port f buffer) a s' = Unless (blocking_refusal s port f (length buffer)) s a s' (Blocked s port (access_of f) buffer a s')
 Answered s (sync port) a s' = Unless (sync_refusal s port) s a s' (Synced s port a s')
-
--- Each of a list has a property.
-pub data All {X : Type 0} (P : X → Type 0) : List X → Type 0 where
-  none : All P []
-  both : {x : X} {xs : List X} → P x → All P xs → All P (x ∷ xs)
 
 -- e is of least due time among those that may be delivered, and of these the first queued.
 pub record Foremost (can : Event → Bool) (events ahead : List Event) (e : Event) (behind : List Event) : Type 0 where

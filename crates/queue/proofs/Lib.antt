@@ -1,4 +1,1 @@
-pub mod Each
-pub mod Due
-pub mod Foremost
-pub mod Removing
+pub mod Places

@@ -1,7 +1,8 @@
 #![tactic(auto)]
 
 // The events that wait for a step, in the order queued.
-mod choice;
+mod full;
 mod queue;
 
+pub use full::Full;
 pub use queue::Queue;
