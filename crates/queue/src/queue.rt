@@ -8,7 +8,7 @@ use arrayvec::ArrayVec;
 use protocol::{Event, EventKind};
 
 // At most 32 events wait: each of eight ports has four tags, and a tag has at most one event.
-#[derive(Debug, Default, Drop, PartialEq, Eq)]
+#[derive(Debug, Drop, PartialEq, Eq)]
 pub struct Queue {
     events: ArrayVec<Event, 32>,
 }
