@@ -1,10 +1,7 @@
 -- What a buffer holds.
-use Rattle.std.specs.Prelude.{ℕ, cond, List, take}
+use Rattle.std.specs.Option.{option_map_or}
 use Rattle.lines.specs.declared.buffer.LineBuffer.{LineBuffer}
 use Rattle.lines.specs.Lines.{Held, kept, over}
 
-abbrev pub stored : LineBuffer → List ℕ
-stored b = take b.len b.bytes
-
 abbrev pub held : LineBuffer → Held
-held b = cond b.long over (kept (stored b))
+held b = option_map_or (λ v. kept v.items) b.bytes over

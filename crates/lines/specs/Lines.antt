@@ -1,5 +1,5 @@
 -- Bytes cut into lines, and the line that is not finished.
-use Rattle.std.specs.Prelude.{ℕ, suc, ◌+◌, Bool, false, cond, List, [], ◌∷◌, ◌++◌, length, Some, None, Option, ◌==◌, nat_le}
+use Rattle.std.specs.Prelude.{ℕ, suc, Bool, false, cond, List, [], ◌∷◌, ◌++◌, length, Some, None, Option, ◌==◌, nat_le}
 use Rattle.std.specs.Option.{option_map}
 
 -- The lines that an LF ends, without it, in order; `before` stands before the bytes.
@@ -35,11 +35,6 @@ held_of xs = cond (nat_le (length xs) 1024) (kept xs) over
 abbrev pub grown_by : Held → List ℕ → Held
 grown_by (kept xs) p = held_of (xs ++ p)
 grown_by over p = over
-
--- whether n bytes more are kept too
-abbrev pub room_for : Held → ℕ → Bool
-room_for (kept xs) n = nat_le (length xs + n) 1024
-room_for over n = false
 
 abbrev pub line_of : Held → Option (List ℕ)
 line_of (kept xs) = Some xs

@@ -1,10 +1,12 @@
-use Rattle.std.proofs.Common.{sym, arith, below_more}
-use Rattle.std.proofs.lemmas.Bool.{eqb-false}
-use Rattle.lines.proofs.FirstEnds.{sofar}
+use Rattle.std.proofs.Common.{◌≡◌, eqb, sym, ◌∙◌, rules, tests}
+use Rattle.std.proofs.lemmas.Iterator.{YieldsList-from_slice}
+use Rattle.std.proofs.lemmas.Iterator.Search.{position_from_yields_List}
+use Rattle.lines.specs.Lines.{first_end}
+use Rattle.lines.proofs.FirstEnds.{first_end_is}
 use Rattle.lines.proofs.ends.first_line_end.Goals as goal
 
-pub loop-i-init : goal.loop-i-init
-loop-i-init c = sofar _ _ (λ k h. absurd (omega arith))
-
-pub loop-i-preserved : goal.loop-i-preserved
-loop-i-preserved c = sofar _ _ (below_more _ _ c.loop-i.invariant.none (eqb-false _ 10 (sym c.if-ends_line.ensures)))
+pub returns : goal.returns
+returns c =
+    let bytes = c.args.bytes.now in
+    let found : c.position.result ≡ first_end bytes = position_from_yields_List (λ b. eqb b 10) _ _ c.position.result c.position.ensures.ran (YieldsList-from_slice bytes cc) (λ x b q k. search (rules, tests)) ∙ sym (first_end_is bytes) in
+    search rules
