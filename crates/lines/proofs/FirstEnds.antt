@@ -1,8 +1,7 @@
 -- The first LF.
-use Rattle.std.proofs.Common.{◌≡◌, ℕ, ◌<◌, eqb, List, [], ◌∷◌, ◌++◌, take, Some, None, Option, sym, refl, ap, ◌∙◌, arith}
+use Rattle.std.proofs.Common.{◌≡◌, ℕ, eqb, List, [], ◌∷◌, Some, None, Option, sym, refl, ◌∙◌, arith}
 use Rattle.std.specs.List.{position}
-use Rattle.std.proofs.lemmas.Bool.{eqb-true, eqb-false}
-use Rattle.std.proofs.lemmas.List.{get_or-take, length-take, take_more}
+use Rattle.std.proofs.lemmas.List.{take_more}
 use Rattle.std.proofs.lemmas.Grind.{common_steps}
 use Rattle.std.proofs.lemmas.List.Quantifiers.{position-Some}
 use Rattle.std.proofs.lemmas.List.Sums.{fails_before_first}
@@ -16,12 +15,11 @@ first_end_is (b ∷ bs) = grind (arith, common_steps, first_end_is bs)
 pub end_found : (bs : List ℕ) (i : ℕ) → first_end bs ≡ Some i → EndsAt bs i
 end_found bs i e =
     let at = position-Some (λ b. eqb b 10) bs i 0 (sym (first_end_is bs) ∙ e) in
-    let there = eqb-true _ 10 at.1 in
     record {
       within = at.0;
-      there = there;
-      none_before = λ k h ends. let l : k < i = omega (arith, length-take i bs) in eqb-false _ 10 (at.2 k l) (sym (get_or-take i bs k 0 l) ∙ ends);
-      through = take_more bs i 0 at.0 ∙ ap (λ b. take i bs ++ (b ∷ [])) there;
+      there = grind (arith, common_steps, at.1);
+      none_before = λ k h ends. grind (arith, common_steps, at.2 k);
+      through = grind (arith, common_steps, at.1, take_more bs i 0 at.0);
     }
 
 pub end_missing : (bs : List ℕ) → first_end bs ≡ None → NoEnd bs
