@@ -1,64 +1,49 @@
--- A field read digit by digit.
-use Rattle.std.proofs.Common.{◌≡◌, ℕ, ◌+◌, ◌*◌, ◌^◌, ◌<◌, ◌≤◌, true, false, ◌&&◌, List, length, get_or, drop, sym, refl, ap, ◌∙◌, subst, mul-le-mul_right, add-mul, pow-suc, add-one, arith}
-use native.Mathlib.Nat.{pow-zero, pow-le-pow_left, pow-le-pow_right}
-use Rattle.std.specs.Str.Parse.{digits_value, digits_value_after}
+-- A field of digits.
+use Rattle.std.proofs.Common.{◌≡◌, ℕ, ◌+◌, ◌*◌, ◌^◌, ◌<◌, ◌≤◌, true, false, ◌&&◌, ltb, List, [], ◌∷◌, length, get_or, take, refl, sym, ap, subst, ◌∙◌, arith}
+use native.Mathlib.Nat.{pow-le-pow_left, pow-le-pow_right}
 use Rattle.std.specs.Char.{digit_value}
-use Rattle.std.proofs.lemmas.List.{at_drop_more, at_drop_all}
+use Rattle.std.specs.List.{list_all}
+use Rattle.std.specs.Str.Parse.{digits_value, AllDigits}
 use Rattle.std.proofs.lemmas.Bool.{lt-ltb, le-ltb}
+use Rattle.std.proofs.lemmas.Int.Digits.{digits_value-lt, digits_value_more, digits_more}
+use Rattle.std.proofs.lemmas.List.{length-take}
+use Rattle.std.proofs.lemmas.List.Folds.{list_all_at}
 use Rattle.script.specs.Forms.{all_digits}
 
--- The byte at i is a digit, so whether all are is left to those after it.
-pub digits_more : (radix : ℕ) (field : List ℕ) (i b : ℕ) → i < length field → b ≡ get_or field i 0 → digit_value b < radix → all_digits radix (drop (i + 1) field) ≡ all_digits radix (drop i field)
-digits_more radix field i b lt is h =
-    sym (ap (λ t. t && all_digits radix (drop (i + 1) field)) (lt-ltb _ _ (subst (λ x. digit_value x < radix) is h))) ∙ sym (at_drop_more (all_digits radix) field i 0 lt)
+pub all_pass : (radix : ℕ) (field : List ℕ) → list_all (λ b. ltb (digit_value b) radix) field ≡ all_digits radix field
+all_pass radix [] = refl
+all_pass radix (b ∷ bs) = ap (λ t. ltb (digit_value b) radix && t) (all_pass radix bs)
 
--- The byte at i is none.
-pub digits_stop : (radix : ℕ) (field : List ℕ) (i b : ℕ) → i < length field → b ≡ get_or field i 0 → (digit_value b < radix → ⊥) → all_digits radix (drop i field) ≡ false
-digits_stop radix field i b lt is bad =
-    at_drop_more (all_digits radix) field i 0 lt ∙ ap (λ t. t && all_digits radix (drop (i + 1) field)) (le-ltb _ _ (subst (λ x. radix ≤ digit_value x) is (omega arith)))
+pub all_digits_true : (radix : ℕ) (field : List ℕ) → AllDigits radix field → all_digits radix field ≡ true
+all_digits_true radix [] h = refl
+all_digits_true radix (b ∷ bs) h = rw (lt-ltb (digit_value b) radix h.0) (all_digits_true radix bs h.1)
 
--- n is the number of the first i digits, and what is left decides the answer.
-pub record Sofar (radix : ℕ) (field : List ℕ) (i n : ℕ) : Type 0 where
-  pub small : n < radix ^ i
-  pub rest : digits_value_after radix n (drop i field) ≡ digits_value radix field
-  pub digits : all_digits radix (drop i field) ≡ all_digits radix field
+pub all_digits_false : (radix i b : ℕ) (field : List ℕ) → i < length field → b ≡ get_or field i 0 → (digit_value b < radix → ⊥) → all_digits radix field ≡ false
+all_digits_false radix i b field here is bad =
+    sym (all_pass radix field) ∙ list_all_at _ field i 0 here (ap (λ x. ltb (digit_value x) radix) (sym is) ∙ le-ltb _ _ (omega arith))
 
-pub start : (radix : ℕ) (field : List ℕ) → Sofar radix field 0 0
-start radix field = record { small = rw (pow-zero radix) (omega arith); rest = refl; digits = refl }
+-- n is the number of digits.
+abbrev pub Reads : ℕ → List ℕ → ℕ → Type 0
+Reads radix field n = (n ≡ digits_value radix field) × AllDigits radix field
 
-digit_more : (radix i n d : ℕ) → n < radix ^ i → d < radix → n * radix + d < radix ^ (i + 1)
-digit_more radix i n d hn hd =
-    let le : (n + 1) * radix ≤ radix ^ i * radix = mul-le-mul_right radix (omega arith) in
-    let a = add-mul n 1 radix in
-    let p = pow-suc radix i in
-    rw (add-one i) (omega (arith, le, a, p))
-
-power_fits : (radix i : ℕ) → radix ≤ 16 → i < 15 → radix ^ (i + 1) ≤ 2 ^ 60
-power_fits radix i r h =
-    let one : radix ^ (i + 1) ≤ 16 ^ (i + 1) = pow-le-pow_left r (i + 1) in
-    let le : i + 1 ≤ 15 = omega arith in
-    let two : 16 ^ (i + 1) ≤ 16 ^ 15 = pow-le-pow_right (omega arith) le in
+pub below_power : (radix most n : ℕ) (field : List ℕ) → 2 ≤ radix → length field ≤ most → Reads radix field n → n < radix ^ most
+below_power radix most n field two short h =
+    let value = digits_value-lt radix field h.1 in
+    let power : radix ^ length field ≤ radix ^ most = pow-le-pow_right (omega arith) short in
     omega arith
 
-module _ (radix : ℕ) (field : List ℕ) (i n d b r : ℕ) (lt : i < length field) (is : b ≡ get_or field i 0) (same : r ≡ radix) (sofar : Sofar radix field i n) where
-  pub fits : radix ≤ 16 → i < 15 → d < radix → n * r + d < 2 ^ 60
-  fits le h dl = let m = digit_more radix i n d sofar.small dl in let p = power_fits radix i le h in rw same (omega arith)
+-- The digit d after the number n of the first i.
+module _ (radix n i b d e r : ℕ) (field : List ℕ) (here : i < length field) (is : b ≡ get_or field i 0) (digit : (digit_value b < radix) × (e ≡ digit_value b)) (wide : d ≡ e) (same : r ≡ radix) (h : Reads radix (take i field) n) where
+  pub more : Reads radix (take (i + 1) field) (n * r + d)
+  more =
+      let value : d ≡ digit_value (get_or field i 0) = wide ∙ digit.1 ∙ ap digit_value is in
+      let low : digit_value (get_or field i 0) < radix = subst (λ x. digit_value x < radix) is digit.0 in
+      ((λ j. h.0 j * same j + value j) ∙ sym (digits_value_more radix field i here), digits_more radix field i here h.1 low)
 
-  pub more : d ≡ digit_value b → d < radix → Sofar radix field (i + 1) (n * r + d)
-  more e dl =
-      let v = at_drop_more (digits_value_after radix n) field i 0 lt in
-      let e2 : d ≡ digit_value (get_or field i 0) = e ∙ ap digit_value is in
-      record {
-        small = rw same (digit_more radix i n d sofar.small dl);
-        rest = ap (λ x. digits_value_after radix x (drop (i + 1) field)) ((λ j. n * same j + e2 j)) ∙ sym v ∙ sofar.rest;
-        digits = digits_more radix field i b lt is (subst (λ x. x < radix) e dl) ∙ sofar.digits;
-      }
-
-  pub stop : (digit_value b < radix → ⊥) → all_digits radix field ≡ false
-  stop bad = sym sofar.digits ∙ digits_stop radix field i b lt is bad
-
-pub done : (radix : ℕ) (field : List ℕ) (i n : ℕ) → length field ≤ i → Sofar radix field i n → (n ≡ digits_value radix field) × (all_digits radix field ≡ true)
-done radix field i n h s = (sym (at_drop_all (digits_value_after radix n) field i h) ∙ s.rest, sym s.digits ∙ at_drop_all (all_digits radix) field i h)
-
-pub bounded : (radix i most n : ℕ) → 2 ≤ radix → i ≤ most → n < radix ^ i → n < radix ^ most
-bounded radix i most n r le h = let p : radix ^ i ≤ radix ^ most = pow-le-pow_right (omega arith) le in omega arith
+  -- At most 15 digits of a radix of at most 16.
+  pub fits : 2 ≤ radix → radix ≤ 16 → length field ≤ 15 → n * r + d < 2 ^ 60
+  fits two sixteen short =
+      let front = length-take (i + 1) field in
+      let value = below_power radix 15 _ (take (i + 1) field) two (omega arith) more in
+      let power : radix ^ 15 ≤ 16 ^ 15 = pow-le-pow_left sixteen 15 in
+      omega arith

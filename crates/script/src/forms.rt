@@ -13,10 +13,8 @@ fn read_number(field: &[u8], radix: u32, most: usize) -> Option<u64>
     }
     let mut n: u64 = 0;
     for b in field {
-        match char::from(*b).to_digit(radix) {
-            Some(d) => n = n * u64::from(radix) + u64::from(d),
-            None => return None,
-        }
+        let digit = char::from(*b).to_digit(radix)?;
+        n = n * u64::from(radix) + u64::from(digit);
     }
     Some(n)
 }
@@ -30,10 +28,7 @@ pub fn decimal(field: &[u8]) -> Option<u64>
 pub fn address(field: &[u8]) -> Option<u32>
     ensures { result ≡ address_of field.now }
 {
-    match read_number(field, 16, 8) {
-        Some(n) => Some(n as u32),
-        None => None,
-    }
+    read_number(field, 16, 8).map(|n| n as u32)
 }
 
 // Any single byte is a command; those without a letter of their own are command 3.
@@ -52,13 +47,7 @@ pub fn command(field: &[u8]) -> Option<u8>
 fn all_hexadecimal(field: &[u8]) -> bool
     ensures { result ≡ all_digits 16 field.now }
 {
-    for b in field {
-        match char::from(*b).to_digit(16) {
-            Some(_) => {}
-            None => return false,
-        }
-    }
-    true
+    field.iter().all(|b| char::from(*b).is_digit(16))
 }
 
 // The digits of a field, as a part of the line: none for '-'.
