@@ -1,44 +1,34 @@
 -- Digits read as bytes, two to a byte.
-use Rattle.std.proofs.Common.{◌≡◌, ℕ, zero, suc, ◌+◌, ◌*◌, ◌/◌, ◌<◌, min, List, [], ◌∷◌, ◌++◌, length, get_or, take, drop, set, sym, refl, ap, ◌∙◌, append_assoc, arith}
-use Rattle.std.proofs.lemmas.List.{length-take, length-take-le, take_all, get_or-take, set_at, take_more, drop_more}
+use Rattle.std.proofs.Common.{◌≡◌, ℕ, zero, suc, ◌+◌, ◌*◌, ◌<◌, List, [], ◌∷◌, ◌++◌, length, get_or, take, sym, refl, ap, ◌∙◌, append_assoc, append-nil, arith}
 use Rattle.script.specs.Forms.{byte_of, bytes_of}
 
-pub length_bytes : (ds : List ℕ) → length (bytes_of ds) ≡ length ds / 2
-length_bytes [] = refl
-length_bytes (high ∷ []) = refl
-length_bytes (high ∷ low ∷ ds) = let e = length_bytes ds in omega arith
+-- The pair in front of the digits is the next byte, where n more may follow.
+bytes_pair : (pair rest : List ℕ) (n : ℕ) → length pair ≡ 2 → bytes_of (take (2 * (n + 1)) (pair ++ rest)) ≡ byte_of (get_or pair 0 0) (get_or pair 1 0) ∷ bytes_of (take (2 * n) rest)
+bytes_pair (high ∷ low ∷ []) rest n two =
+    let even : 2 * (n + 1) ≡ suc (suc (2 * n)) = omega arith in
+    ap (λ k. bytes_of (take k (high ∷ low ∷ rest))) even
+bytes_pair [] rest n two = absurd (omega arith)
+bytes_pair (high ∷ []) rest n two = absurd (omega arith)
+bytes_pair (high ∷ low ∷ more ∷ pair) rest n two = absurd (omega arith)
 
-pub count_bytes : (ds : List ℕ) → min (length ds / 2) 128 ≡ length (bytes_of (take 256 ds))
-count_bytes ds =
-    let bytes = length_bytes (take 256 ds) in
-    let digits = length-take 256 ds in
-    omega arith
+pub pushed : (held now pair digits rest all : List ℕ) (left more v : ℕ) → length pair ≡ 2 → digits ≡ pair ++ rest → more + 1 ≡ left → v ≡ byte_of (get_or pair 0 0) (get_or pair 1 0) → now ≡ held ++ v ∷ [] → held ++ bytes_of (take (2 * left) digits) ≡ all → now ++ bytes_of (take (2 * more) rest) ≡ all
+pushed held now pair digits rest all left more v two cut one is new h =
+    ap (λ l. l ++ bytes_of (take (2 * more) rest)) new
+    ∙ append_assoc held (v ∷ []) _
+    ∙ ap (λ b. held ++ b ∷ bytes_of (take (2 * more) rest)) is
+    ∙ ap (λ l. held ++ l) (sym (bytes_pair pair rest more two))
+    ∙ (λ j. held ++ bytes_of (take (2 * one j) (sym cut j)))
+    ∙ h
 
-byte_at : (ds : List ℕ) (i : ℕ) → i < length (bytes_of ds) → get_or (bytes_of ds) i 0 ≡ byte_of (get_or ds (2 * i) 0) (get_or ds (2 * i + 1) 0)
-byte_at [] i h = absurd (omega arith)
-byte_at (high ∷ []) i h = absurd (omega arith)
-byte_at (high ∷ low ∷ ds) zero h = refl
-byte_at (high ∷ low ∷ ds) (suc i) h =
-    let even : 2 * suc i ≡ suc (suc (2 * i)) = omega arith in
-    let odd : 2 * suc i + 1 ≡ suc (suc (2 * i + 1)) = omega arith in
-    byte_at ds i (omega arith) ∙ sym (λ j. byte_of (get_or (high ∷ low ∷ ds) (even j) 0) (get_or (high ∷ low ∷ ds) (odd j) 0))
+short : (n : ℕ) (digits : List ℕ) → length digits < 2 → bytes_of (take n digits) ≡ []
+short zero digits h = refl
+short (suc n) [] h = refl
+short (suc n) (digit ∷ []) h = elim n as (λ k. bytes_of (digit ∷ take k []) ≡ []) [ zero ↦ refl | suc k ↦ refl ]
+short (suc n) (high ∷ low ∷ digits) h = absurd (omega arith)
 
-pub byte_of_first : (ds : List ℕ) (n i : ℕ) → i < length (bytes_of (take n ds)) → get_or (bytes_of (take n ds)) i 0 ≡ byte_of (get_or ds (2 * i) 0) (get_or ds (2 * i + 1) 0)
-byte_of_first ds n i h =
-    let bytes = length_bytes (take n ds) in
-    let digits = length-take n ds in
-    let high = get_or-take n ds (2 * i) 0 (omega arith) in
-    let low = get_or-take n ds (2 * i + 1) 0 (omega arith) in
-    byte_at (take n ds) i h ∙ (λ j. byte_of (high j) (low j))
-
--- The next place of a buffer ys whose first i places hold those of xs.
-pub placed : (xs ys held : List ℕ) (i v : ℕ) → i < length xs → i < length ys → held ≡ take i xs ++ drop i ys → v ≡ get_or xs i 0 → set held i v ≡ take (i + 1) xs ++ drop (i + 1) ys
-placed xs ys held i v hx hy is at =
-    ap (λ l. set l i v) (is ∙ ap (λ l. take i xs ++ l) (drop_more ys i 0 hy))
-    ∙ set_at (take i xs) (get_or ys i 0) (drop (i + 1) ys) v i (length-take-le i xs (omega arith))
-    ∙ ap (λ x. take i xs ++ (x ∷ drop (i + 1) ys)) at
-    ∙ sym (append_assoc (take i xs) (get_or xs i 0 ∷ []) (drop (i + 1) ys))
-    ∙ ap (λ l. l ++ drop (i + 1) ys) (sym (take_more xs i 0 hx))
-
-pub filled : (xs ys held : List ℕ) (i n : ℕ) → i ≡ n → n ≡ length xs → held ≡ take i xs ++ drop i ys → held ≡ xs ++ drop n ys
-filled xs ys held i n same all is = is ∙ (λ j. take_all i xs (omega arith) j ++ drop (same j) ys)
+-- Either no byte may follow or no pair is left.
+pub all_pushed : (held digits all : List ℕ) (left size : ℕ) → (0 < left → length digits < size) → size ≡ 2 → held ++ bytes_of (take (2 * left) digits) ≡ all → held ≡ all
+all_pushed held digits all zero size over two h = sym (append-nil held) ∙ h
+all_pushed held digits all (suc more) size over two h =
+    let few : length digits < size = over (omega arith) in
+    sym (append-nil held) ∙ ap (λ l. held ++ l) (sym (short (2 * suc more) digits (omega arith))) ∙ h
