@@ -1,39 +1,25 @@
-ghost use Rattle.std.specs.Prelude.{◌≡◌, ◌<◌};
+ghost use Rattle.std.specs.Prelude.{◌≡◌, ◌<◌, [], slice_index_or, Option};
+ghost use Rattle.std.specs.Fn.{FnOnceReturnsAt};
+ghost use Rattle.std.specs.Option.{ok_or};
 ghost use Rattle.script.specs.Fields.{fields};
-ghost use Rattle.script.specs.Records.{meaning, number_at, address_at, command_at, hex_at, digits_in, counted, settings_of, blocking_of, sync_of, parsed, opened};
+ghost use Rattle.script.specs.Records.{meaning, fault_at, counted, settings_of, blocking_of, sync_of, parsed, opened};
 
 use crate::faults::{FieldFault, RecordFault};
 use crate::fields::{count_fields, field};
 use crate::forms::{address, command, decimal, hexadecimal};
 use crate::records::Record;
 
-// The fields after the letter are counted from 0. The letter is field 1.
-fn number_at(rest: &[u8], k: usize) -> Result<u64, FieldFault>
-    requires { k < 16 }
-    ensures { result ≡ number_at (fields rest.now) k }
+// Field k after the letter, counted from 0, read by its form. The letter is field 1.
+fn form_at<'a, T, F: FnOnce(&'a [u8]) -> Option<T>>(
+    rest: &'a [u8],
+    k: usize,
+    form: F,
+) -> Result<T, FieldFault>
+    requires callable { F.IsAlwaysCallable form }
+    requires bound { k < 16 }
+    ensures { (read : Option T) × (FnOnceReturnsAt F.FnOnce form (slice_index_or (fields rest.now) k []) read × (result ≡ ok_or read (fault_at k))) }
 {
-    decimal(field(rest, k)).ok_or(FieldFault { field: k + 2 })
-}
-
-fn address_at(rest: &[u8], k: usize) -> Result<u32, FieldFault>
-    requires { k < 16 }
-    ensures { result ≡ address_at (fields rest.now) k }
-{
-    address(field(rest, k)).ok_or(FieldFault { field: k + 2 })
-}
-
-fn command_at(rest: &[u8], k: usize) -> Result<u8, FieldFault>
-    requires { k < 16 }
-    ensures { result ≡ command_at (fields rest.now) k }
-{
-    command(field(rest, k)).ok_or(FieldFault { field: k + 2 })
-}
-
-fn hex_at(rest: &[u8], k: usize) -> Result<&[u8], FieldFault>
-    requires { k < 16 }
-    ensures { digits_in result ≡ hex_at (fields rest.now) k }
-{
-    hexadecimal(field(rest, k)).ok_or(FieldFault { field: k + 2 })
+    form(field(rest, k)).ok_or(FieldFault { field: k + 2 })
 }
 
 // No field is missing and none is surplus: n follow the letter.
@@ -55,10 +41,10 @@ fn parse_settings(rest: &[u8]) -> Result<Record<'_>, RecordFault>
     ensures { meaning result ≡ settings_of (fields rest.now) }
 {
     expect_fields(rest, 4)?;
-    let ports = number_at(rest, 0)?;
-    let accept = number_at(rest, 1)?;
-    let quantum = number_at(rest, 2)?;
-    let start = number_at(rest, 3)?;
+    let ports = form_at(rest, 0, decimal)?;
+    let accept = form_at(rest, 1, decimal)?;
+    let quantum = form_at(rest, 2, decimal)?;
+    let start = form_at(rest, 3, decimal)?;
     Ok(Record::Settings {
         ports,
         accept,
@@ -71,13 +57,13 @@ fn parse_blocking(rest: &[u8]) -> Result<Record<'_>, RecordFault>
     ensures { meaning result ≡ blocking_of (fields rest.now) }
 {
     expect_fields(rest, 7)?;
-    let port = number_at(rest, 0)?;
-    let command = command_at(rest, 1)?;
-    let address = address_at(rest, 2)?;
-    let length = number_at(rest, 3)?;
-    let width = number_at(rest, 4)?;
-    let enables = hex_at(rest, 5)?;
-    let data = hex_at(rest, 6)?;
+    let port = form_at(rest, 0, decimal)?;
+    let command = form_at(rest, 1, command)?;
+    let address = form_at(rest, 2, address)?;
+    let length = form_at(rest, 3, decimal)?;
+    let width = form_at(rest, 4, decimal)?;
+    let enables = form_at(rest, 5, hexadecimal)?;
+    let data = form_at(rest, 6, hexadecimal)?;
     Ok(Record::Blocking {
         port,
         command,
@@ -93,7 +79,7 @@ fn parse_sync(rest: &[u8]) -> Result<Record<'_>, RecordFault>
     ensures { meaning result ≡ sync_of (fields rest.now) }
 {
     expect_fields(rest, 1)?;
-    let port = number_at(rest, 0)?;
+    let port = form_at(rest, 0, decimal)?;
     Ok(Record::Sync { port })
 }
 
