@@ -1,4 +1,3 @@
-pub mod Bounds
 mod Cuts
 mod Numerals
 mod Openings

@@ -1,5 +1,5 @@
 -- The forms of fields.
-use Rattle.std.specs.Prelude.{ℕ, ◌+◌, ◌*◌, ◌%◌, Bool, true, cond, ◌&&◌, List, [], ◌∷◌, length, Some, None, Option, ◌==◌, nat_le, nat_lt, slice_index}
+use Rattle.std.specs.Prelude.{ℕ, ◌+◌, ◌*◌, ◌%◌, ◌≤◌, Bool, true, cond, ◌&&◌, List, [], ◌∷◌, length, Some, None, Option, ◌==◌, nat_le, nat_lt, slice_index}
 use Rattle.std.specs.Borrow.{Bor}
 use Rattle.std.specs.Str.Parse.{digits_value}
 use Rattle.std.specs.Char.{digit_value}
@@ -31,6 +31,10 @@ abbrev pub hex_of : List ℕ → Option (List ℕ)
 hex_of cs =
     cond (length cs == 1 && slice_index cs 0 == 45) (Some [])
     (cond (nat_le 1 (length cs) && (nat_le (length cs) 256 && (length cs % 2 == 0 && all_digits 16 cs))) (Some cs) None)
+
+-- A field of digits has at most 256.
+abbrev pub IsShort : List ℕ → Type 0
+IsShort digits = length digits ≤ 256
 
 -- What a part of a line holds.
 abbrev pub held : Option (Bor (List ℕ)) → Option (List ℕ)

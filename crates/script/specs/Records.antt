@@ -1,6 +1,5 @@
 -- What a line says.
-use Rattle.std.specs.Prelude.{ℕ, ◌+◌, ◌-◌, Bool, cond, ◌&&◌, List, [], ◌∷◌, length, take, drop, Ok, Err, Result, ◌==◌, nat_lt, slice_index, slice_index_or}
-use Rattle.std.specs.Borrow.{Bor}
+use Rattle.std.specs.Prelude.{ℕ, ◌+◌, ◌-◌, Bool, cond, ◌&&◌, List, [], ◌∷◌, length, take, drop, Ok, Err, Option, Result, ◌==◌, nat_lt, slice_index, slice_index_or}
 use Rattle.std.specs.Option.{ok_or}
 use Rattle.script.specs.Fields.{fields}
 use Rattle.script.specs.Forms.{decimal_of, address_of, command_of, hex_of}
@@ -18,7 +17,7 @@ pub data Said : Type 0 where
 
 abbrev pub said : Record → Said
 said (Settings ports accept quantum start) = settings ports accept quantum start
-said (Blocking port command address len width enables digits) = blocking port command address len width enables.now digits.now
+said (Blocking t) = blocking t.port t.command t.address t.length t.width t.enables.now t.«data».now
 said (Sync port) = sync port
 
 abbrev pub meaning : Result Record RecordFault → Result Said RecordFault
@@ -29,22 +28,20 @@ meaning (Err e) = Err e
 abbrev pub fault_at : ℕ → FieldFault
 fault_at k = record { field = k + 2 }
 
+abbrev pub form_at : {A : Type 0} → (List ℕ → Option A) → List (List ℕ) → ℕ → Result A FieldFault
+form_at form fs k = ok_or (form (slice_index_or fs k [])) (fault_at k)
+
 abbrev pub number_at : List (List ℕ) → ℕ → Result ℕ FieldFault
-number_at fs k = ok_or (decimal_of (slice_index_or fs k [])) (fault_at k)
+number_at fs k = form_at decimal_of fs k
 
 abbrev pub address_at : List (List ℕ) → ℕ → Result ℕ FieldFault
-address_at fs k = ok_or (address_of (slice_index_or fs k [])) (fault_at k)
+address_at fs k = form_at address_of fs k
 
 abbrev pub command_at : List (List ℕ) → ℕ → Result ℕ FieldFault
-command_at fs k = ok_or (command_of (slice_index_or fs k [])) (fault_at k)
+command_at fs k = form_at command_of fs k
 
 abbrev pub hex_at : List (List ℕ) → ℕ → Result (List ℕ) FieldFault
-hex_at fs k = ok_or (hex_of (slice_index_or fs k [])) (fault_at k)
-
--- What the part of a line in a result holds.
-abbrev pub digits_in : Result (Bor (List ℕ)) FieldFault → Result (List ℕ) FieldFault
-digits_in (Ok s) = Ok s.now
-digits_in (Err e) = Err e
+hex_at fs k = form_at hex_of fs k
 
 -- There are n fields: none is missing, none is surplus.
 abbrev pub counted : ℕ → List (List ℕ) → Result (Unit {0}) RecordFault

@@ -3,13 +3,13 @@ ghost use Rattle.script.specs.declared.faults.PlayerFault.TheVariants.{Record};
 ghost use Rattle.script.specs.declared.faults.RecordFault.TheVariants.{Field};
 
 // A field that is not of its form. The letter is field 1.
-#[derive(Clone, Copy)]
+#[derive(Clone, Copy, Debug, PartialEq, Eq)]
 pub struct FieldFault {
     pub field: usize,
 }
 
 // What is wrong with a line of a length that is read.
-#[derive(Clone, Copy)]
+#[derive(Clone, Copy, Debug, PartialEq, Eq)]
 pub enum RecordFault {
     UnknownLetter,
     Missing(usize),
@@ -18,7 +18,7 @@ pub enum RecordFault {
 }
 
 // Why a line is answered with BAD.
-#[derive(Clone, Copy)]
+#[derive(Clone, Copy, Debug, PartialEq, Eq)]
 pub enum PlayerFault {
     TooLong,
     Record(RecordFault),

@@ -8,7 +8,9 @@ fn nibble(digit: u8) -> u8
     ensures value { result ≡ nibble digit }
     ensures small { result < 16 }
 {
-    char::from(digit).to_digit(16).map_or(0, |value| value as u8)
+    char::from(digit)
+        .to_digit(16)
+        .map_or(0, |value| value as u8)
 }
 
 fn byte_of(high: u8, low: u8) -> u8

@@ -12,4 +12,4 @@ mod records;
 pub use faults::{FieldFault, PlayerFault, RecordFault};
 pub use hexadecimal::decode;
 pub use parser::parse;
-pub use records::Record;
+pub use records::{Record, Transfer};

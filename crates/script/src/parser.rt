@@ -7,7 +7,7 @@ ghost use Rattle.script.specs.Records.{meaning, fault_at, counted, settings_of, 
 use crate::faults::{FieldFault, RecordFault};
 use crate::fields::{count_fields, field};
 use crate::forms::{address, command, decimal, hexadecimal};
-use crate::records::Record;
+use crate::records::{Record, Transfer};
 
 // Field k after the letter, counted from 0, read by its form. The letter is field 1.
 fn form_at<'a, T, F: FnOnce(&'a [u8]) -> Option<T>>(
@@ -64,7 +64,7 @@ fn parse_blocking(rest: &[u8]) -> Result<Record<'_>, RecordFault>
     let width = form_at(rest, 4, decimal)?;
     let enables = form_at(rest, 5, hexadecimal)?;
     let data = form_at(rest, 6, hexadecimal)?;
-    Ok(Record::Blocking {
+    Ok(Record::Blocking(Transfer {
         port,
         command,
         address,
@@ -72,7 +72,7 @@ fn parse_blocking(rest: &[u8]) -> Result<Record<'_>, RecordFault>
         width,
         enables,
         data,
-    })
+    }))
 }
 
 fn parse_sync(rest: &[u8]) -> Result<Record<'_>, RecordFault>

@@ -1,5 +1,21 @@
-// A line of the script. Hexadecimal fields are parts of the line, two digits to a byte.
-#[derive(Clone, Copy)]
+ghost use Rattle.script.specs.Forms.{IsShort};
+
+// A blocking call: the fields of the call and its data, in hexadecimal digits that are parts of the line, two to a byte.
+#[derive(Clone, Copy, Debug, PartialEq, Eq)]
+pub struct Transfer<'a> {
+    pub port: u64,
+    pub command: u8,
+    pub address: u32,
+    pub length: u64,
+    pub width: u64,
+    pub enables: &'a [u8],
+    pub data: &'a [u8],
+    pub ghost short_enables: { IsShort enables.now },
+    pub ghost short_data: { IsShort «data».now },
+}
+
+// A line of the script.
+#[derive(Clone, Copy, Debug, PartialEq, Eq)]
 pub enum Record<'a> {
     Settings {
         ports: u64,
@@ -7,15 +23,7 @@ pub enum Record<'a> {
         quantum: u64,
         start: u64,
     },
-    Blocking {
-        port: u64,
-        command: u8,
-        address: u32,
-        length: u64,
-        width: u64,
-        enables: &'a [u8],
-        data: &'a [u8],
-    },
+    Blocking(Transfer<'a>),
     Sync {
         port: u64,
     },
