@@ -11,8 +11,7 @@ impl PlayerFault {
         match self {
             PlayerFault::TooLong => 0,
             PlayerFault::Record(RecordFault::UnknownLetter) => 1,
-            PlayerFault::Record(RecordFault::Missing(field)) => field,
-            PlayerFault::Record(RecordFault::Surplus(field)) => field,
+            PlayerFault::Record(RecordFault::Missing(field) | RecordFault::Surplus(field)) => field,
             PlayerFault::Record(RecordFault::Field(fault)) => fault.field,
         }
     }

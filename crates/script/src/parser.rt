@@ -8,6 +8,7 @@ use crate::faults::{FieldFault, RecordFault};
 use crate::fields::{count_fields, field};
 use crate::forms::{address, command, decimal, hexadecimal};
 use crate::records::{Record, Transfer};
+use std::cmp::Ordering;
 
 // Field k after the letter, counted from 0, read by its form. The letter is field 1.
 fn form_at<'a, T, F: FnOnce(&'a [u8]) -> Option<T>>(
@@ -28,12 +29,10 @@ fn expect_fields(rest: &[u8], n: usize) -> Result<(), RecordFault>
     ensures { result ≡ counted n (fields rest.now) }
 {
     let count = count_fields(rest);
-    if count < n {
-        Err(RecordFault::Missing(count + 2))
-    } else if count > n {
-        Err(RecordFault::Surplus(n + 2))
-    } else {
-        Ok(())
+    match count.cmp(&n) {
+        Ordering::Less => Err(RecordFault::Missing(count + 2)),
+        Ordering::Greater => Err(RecordFault::Surplus(n + 2)),
+        Ordering::Equal => Ok(()),
     }
 }
 
