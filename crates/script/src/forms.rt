@@ -12,6 +12,7 @@ fn read_number(field: &[u8], radix: u32, most: usize) -> Option<u64>
         return None;
     }
     let mut n: u64 = 0;
+    // A loop, since a closure of `try_fold` would have to ask for its own bound on the number so far.
     for b in field {
         let digit = char::from(*b).to_digit(radix)?;
         n = n * u64::from(radix) + u64::from(digit);
