@@ -1,6 +1,6 @@
 // Hexadecimal digits as bytes.
 ghost use Rattle.std.specs.Prelude.{◌≡◌, ◌<◌, take};
-ghost use Rattle.script.specs.Forms.{nibble, byte_of, bytes_of};
+ghost use Rattle.script.specs.Forms.{nibble, byte_of, bytes_of, IsShort};
 
 use arrayvec::ArrayVec;
 
@@ -21,7 +21,8 @@ fn byte_of(high: u8, low: u8) -> u8
 
 // The bytes of the first 256 digits.
 pub fn decode(digits: &[u8]) -> ArrayVec<u8, 128>
-    ensures { result.items ≡ bytes_of (take 256 digits.now) }
+    ensures bytes { result.items ≡ bytes_of (take 256 digits.now) }
+    ensures whole { IsShort digits.now → result.items ≡ bytes_of digits.now }
 {
     let mut bytes = ArrayVec::new();
     for pair in digits.chunks_exact(2).take(128) {

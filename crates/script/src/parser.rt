@@ -97,6 +97,7 @@ fn parse_line(line: &[u8], first: bool) -> Result<Record<'_>, RecordFault>
 }
 
 // What a line says. Only the `first` of the input may hold the settings.
+#[tactic(auto, using(crate::proofs::Openings::opened_parsed))]
 pub fn parse(line: &[u8], first: bool) -> Result<Record<'_>, RecordFault>
     ensures { meaning result ≡ parsed first line.now }
 {

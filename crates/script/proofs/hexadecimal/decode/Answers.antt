@@ -1,4 +1,6 @@
-use Rattle.std.proofs.Common.{◌∙◌, arith}
+use Rattle.std.proofs.Common.{ap, ◌∙◌, arith}
+use Rattle.std.proofs.lemmas.List.{take_all}
+use Rattle.script.specs.Forms.{bytes_of}
 use Rattle.script.proofs.Bytes.{pushed, all_pushed}
 use Rattle.script.proofs.hexadecimal.decode.Goals as goal
 
@@ -13,4 +15,6 @@ loop-pair-preserved c =
     }
 
 pub returns : goal.returns
-returns c = all_pushed _ _ _ _ _ (λ h. (c.in-None.ensures.steps h).1.0) c.loop-pair.invariant.pairs c.loop-pair.invariant.bytes
+returns c =
+    let bytes = all_pushed _ _ _ _ _ (λ h. (c.in-None.ensures.steps h).1.0) c.loop-pair.invariant.pairs c.loop-pair.invariant.bytes in
+    record { bytes = bytes; whole = λ short. bytes ∙ ap bytes_of (take_all 256 c.args.digits.now short) }
