@@ -1,4 +1,2 @@
-pub mod Decimals
-pub mod Lengths
+pub mod Hex
 pub mod Onto
-pub mod Pieces

@@ -1,5 +1,5 @@
 -- The response lines: a word and fields, parted by one TAB each, and LF.
-use Rattle.std.specs.Prelude.{ℕ, ◌^◌, ◌<◌, ◌≤◌, List, [], ◌∷◌, ◌++◌, length, Some, None, codes, decimal, Option}
+use Rattle.std.specs.Prelude.{ℕ, ◌≤◌, List, [], ◌∷◌, ◌++◌, length, Some, None, codes, decimal, Option}
 use Rattle.std.specs.Option.{option_map}
 use Rattle.std.specs.Fmt.{signed_decimal}
 use Rattle.bus.specs.Numbers.{status_number, refusal_number}
@@ -57,25 +57,6 @@ tabbed f (g ∷ gs) = f ++ (tab ++ tabbed g gs)
 
 abbrev pub shown : Line → List ℕ
 shown l = tabbed (word l) (fields l)
-
--- the same, but for LF, as the pieces that are written one after another
-abbrev pub after_tabs : List (List ℕ) → List (List ℕ)
-after_tabs [] = []
-after_tabs (f ∷ fs) = tab ∷ f ∷ after_tabs fs
-
-abbrev pub pieces : List ℕ → List (List ℕ) → List (List ℕ)
-pieces f fs = f ∷ after_tabs fs
-
-abbrev pub parts : Line → List (List ℕ)
-parts l = pieces (word l) (fields l)
-
--- the numbers that the code passes on have at most 64 bits
-abbrev pub Fitting : Line → Type 0
-Fitting set_line = Unit {0}
-Fitting (done_line port local status bytes) = (port < 2 ^ 64) × (local < 2 ^ 64)
-Fitting (sync_line port time) = (port < 2 ^ 64) × (time < 2 ^ 64)
-Fitting (no_line refusal) = refusal_number refusal < 2 ^ 64
-Fitting (bad_line number fault) = (number < 2 ^ 64) × (field_of fault < 2 ^ 64) × (cause_of fault < 2 ^ 64)
 
 -- data of at most 64 bytes
 abbrev pub ShortData : Option (List ℕ) → Type 0

@@ -1,52 +1,70 @@
-ghost use Rattle.std.specs.Prelude.{◌≡◌, [], ◌∷◌, map, decimal};
+ghost use Rattle.std.specs.Prelude.{◌≡◌, ◌<◌, ◌≤◌, [], ◌∷◌, ◌++◌, length};
 ghost use Rattle.std.specs.Option.{option_map};
 ghost use Rattle.std.specs.Fmt.{signed_decimal};
 ghost use Rattle.bus.specs.Numbers.{status_number};
-ghost use Rattle.response.specs.Lines.{tab, pieces, data_shown};
-ghost use Rattle.response.specs.Texts.{text, onto, written};
+ghost use Rattle.response.specs.Lines.{tab, data_shown, ShortData};
+ghost use Rattle.response.specs.Texts.{text, onto, hex_digit, hex_digits};
 
 use crate::text::Text;
 use bus::Status;
+use itoa::{Buffer, Integer};
 
 fn start_field(out: &mut Text)
     ensures { text out.new ≡ onto (text out.old) tab }
 {
-    out.push(b'\t');
+    out.push(b"\t");
 }
 
-// A TAB and a number.
-fn number_field(out: &mut Text, n: u64)
-    ensures { text out.new ≡ written (text out.old) (tab ∷ decimal n ∷ []) }
+// TAB and the number, in decimal.
+pub(crate) fn number_field<N: Integer>(out: &mut Text, n: N)
+    ensures text { text out.new ≡ onto (text out.old) (tab ++ N.text n) }
+    ensures short { length (N.text n) ≤ N.MAX_STR_LEN }
 {
     start_field(out);
-    out.push_decimal(n);
+    out.push(Buffer::new().format(n).as_bytes());
 }
 
-// The word, and each number after a TAB.
-pub(crate) fn start_line(out: &mut Text, word: &[u8], numbers: &[u64])
-    ensures { text out.new ≡ written (text out.old) (pieces word.now (map decimal numbers.now)) }
+// TAB and the status's number.
+pub(crate) fn status_field(out: &mut Text, status: Status)
+    ensures text { text out.new ≡ onto (text out.old) (tab ++ signed_decimal (status_number status)) }
+    ensures short { length (signed_decimal (status_number status)) ≤ 11 }
 {
-    out.push_all(word);
-    for number in numbers {
-        number_field(out, *number);
+    number_field(out, status.number());
+}
+
+// The upper-case digit of a number below 16, which crate `hex` gives only in an allocated string.
+fn hex_digit(n: u8) -> u8
+    requires { n < 16 }
+    ensures { result ≡ hex_digit n }
+{
+    if n < 10 { b'0' + n } else { b'A' + (n - 10) }
+}
+
+fn hex_byte(byte: u8) -> [u8; 2]
+    ensures { result ≡ hex_digits (byte ∷ []) }
+{
+    [hex_digit(byte / 16), hex_digit(byte % 16)]
+}
+
+// TAB and the bytes, in hexadecimal.
+fn hex_field(out: &mut Text, bytes: &[u8])
+    ensures { text out.new ≡ onto (text out.old) (tab ++ hex_digits bytes.now) }
+{
+    start_field(out);
+    for byte in bytes {
+        out.push(&hex_byte(*byte));
     }
 }
 
-// A TAB and the status's number.
-pub(crate) fn status_field(out: &mut Text, status: Status)
-    ensures { text out.new ≡ written (text out.old) (tab ∷ signed_decimal (status_number status) ∷ []) }
+// TAB and the data, or `-` where there is none.
+#[tactic(auto, using(crate::proofs::Hex::length_hex))]
+pub(crate) fn data_field(out: &mut Text, bytes: Option<&[u8]>)
+    ensures text { text out.new ≡ onto (text out.old) (tab ++ data_shown (option_map (λ s. s.now) bytes.entry)) }
+    ensures short { ShortData (option_map (λ s. s.now) bytes.entry)
+        → length (data_shown (option_map (λ s. s.now) bytes.entry)) ≤ 128 }
 {
-    start_field(out);
-    out.push_signed(status.number());
-}
-
-// A TAB and the data, in hexadecimal, or `-` where there is none.
-pub(crate) fn data_field(out: &mut Text, data: Option<&[u8]>)
-    ensures { text out.new ≡ written (text out.old) (tab ∷ data_shown (option_map (λ x. x.now) «data».entry) ∷ []) }
-{
-    start_field(out);
-    match data {
-        Some(bytes) => out.push_hex(bytes),
-        None => out.push(b'-'),
+    match bytes {
+        Some(bytes) => hex_field(out, bytes),
+        None => out.push(b"\t-"),
     }
 }

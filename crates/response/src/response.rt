@@ -1,8 +1,8 @@
-ghost use Rattle.std.specs.Prelude.{◌≡◌, [], take};
-ghost use Rattle.response.specs.Lines.{line_feed, seen, parts, shown, Fitting, Short};
-ghost use Rattle.response.specs.Texts.{text, onto, written};
+ghost use Rattle.std.specs.Prelude.{◌≡◌, ◌≤◌, length, take};
+ghost use Rattle.response.specs.Lines.{line_feed, seen, shown, Short};
+ghost use Rattle.response.specs.Texts.{text, onto};
 
-use crate::fields::{data_field, start_line, status_field};
+use crate::fields::{data_field, number_field, status_field};
 use crate::text::Text;
 use bus::{Refusal, Status};
 use script::PlayerFault;
@@ -29,41 +29,42 @@ pub enum Response<'a> {
 }
 
 impl Response<'_> {
+    // The word and the fields. With LF they are the line.
+    // `write!` promises its text only at `Ok`, and no clause says when that is, so each part is pushed.
     fn write_fields(self, out: &mut Text)
-        ensures fits { Fitting (seen self.entry) }
-        ensures text { text out.new ≡ written (text out.old) (parts (seen self.entry)) }
+        ensures text { onto (text out.new) line_feed ≡ onto (text out.old) (shown (seen self.entry)) }
+        ensures short { Short (seen self.entry) → length (shown (seen self.entry)) ≤ 256 }
     {
         match self {
-            Response::Set => start_line(out, b"SET", &[]),
+            Response::Set => out.push(b"SET"),
             Response::Done {
                 port,
                 local,
                 status,
                 data,
             } => {
-                start_line(out, b"DONE", &[port, local]);
+                out.push(b"DONE");
+                number_field(out, port);
+                number_field(out, local);
                 status_field(out, status);
                 data_field(out, data);
             }
-            Response::Sync { port, now } => start_line(out, b"SYNC", &[port, now]),
-            Response::No(refusal) => start_line(out, b"NO", &[u64::from(refusal.number())]),
+            Response::Sync { port, now } => {
+                out.push(b"SYNC");
+                number_field(out, port);
+                number_field(out, now);
+            }
+            Response::No(refusal) => {
+                out.push(b"NO");
+                number_field(out, refusal.number());
+            }
             Response::Bad { line, fault } => {
-                start_line(
-                    out,
-                    b"BAD",
-                    &[line, fault.field() as u64, fault.cause() as u64],
-                );
+                out.push(b"BAD");
+                number_field(out, line);
+                number_field(out, fault.field());
+                number_field(out, fault.cause());
             }
         }
-    }
-
-    fn write_line(self, out: &mut Text)
-        ensures fits { Fitting (seen self.entry) }
-        ensures text { text out.new ≡ onto (written [] (parts (seen self.entry))) line_feed }
-    {
-        out.clear();
-        self.write_fields(out);
-        out.push(b'\n');
     }
 
     // The line, in place of what `out` held. With at most 64 bytes of data it is whole.
@@ -71,6 +72,8 @@ impl Response<'_> {
         ensures cut { text out.new ≡ take 256 (shown (seen self.entry)) }
         ensures whole { Short (seen self.entry) → text out.new ≡ shown (seen self.entry) }
     {
-        self.write_line(out);
+        out.clear();
+        self.write_fields(out);
+        out.push(b"\n");
     }
 }

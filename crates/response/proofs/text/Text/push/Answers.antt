@@ -1,12 +1,15 @@
-use Rattle.std.proofs.Common.{sym, arith}
-use Rattle.std.proofs.lemmas.Bool.{ltb-true, ltb-false}
-use Rattle.response.proofs.Onto.{push_room, push_full}
+use Rattle.std.proofs.Common.{◌≡◌, ℕ, ◌+◌, ◌-◌, ◌≤◌, List, ◌++◌, length, take, min, sym, ap, ◌∙◌, arith}
+use Rattle.std.proofs.Math.Seq.{take-append-add}
+use Rattle.std.proofs.lemmas.Grind.{common_steps}
+use Rattle.std.proofs.lemmas.List.{take_min}
+use Rattle.response.specs.Texts.{onto}
 use Rattle.response.proofs.text.Text.push.Goals as goal
 
-pub returns-then-has_room : goal.returns-then-has_room
-returns-then-has_room c =
-    push_room c.args.self.now.bytes c.args.self.now.len c.args.byte (omega arith) (ltb-true _ _ (sym c.if-has_room.ensures))
+-- what finds room of x after a
+kept_part : (a x : List ℕ) (kept : ℕ) → length a ≤ 256 → kept ≡ min (256 - length a) (length x) → onto a x ≡ a ++ take kept x
+kept_part a x kept fits least =
+    let whole : length a + (256 - length a) ≡ 256 = omega arith in
+    sym (ap (λ n. a ++ take n x) least ∙ ap (λ y. a ++ y) (take_min (256 - length a) x) ∙ sym (take-append-add a x (256 - length a)) ∙ ap (λ n. take n (a ++ x)) whole)
 
-pub returns-else-has_room : goal.returns-else-has_room
-returns-else-has_room c =
-    push_full c.args.self.now.bytes _ c.args.self.now.len (omega arith) (omega arith) (ltb-false _ _ (sym c.if-has_room.ensures))
+pub returns : goal.returns
+returns c = grind (arith, common_steps, kept_part)
