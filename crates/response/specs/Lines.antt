@@ -3,7 +3,7 @@ use Rattle.std.specs.Prelude.{ℕ, ◌≤◌, List, [], ◌∷◌, ◌++◌, len
 use Rattle.std.specs.Option.{option_map}
 use Rattle.std.specs.Fmt.{signed_decimal}
 use Rattle.bus.specs.Numbers.{status_number, refusal_number}
-use Rattle.bus.specs.declared.kinds.Status.{Status}
+use Rattle.bus.specs.Answers.{Status, status_of}
 use Rattle.bus.specs.declared.kinds.Refusal.{Refusal}
 use Rattle.script.specs.Faults.{field_of, cause_of}
 use Rattle.script.specs.declared.faults.PlayerFault.{PlayerFault}
@@ -21,7 +21,7 @@ pub data Line : Type 0 where
 
 abbrev pub seen : Response → Line
 seen Set = set_line
-seen (Done port local status bytes) = done_line port local status (option_map (λ s. s.now) bytes)
+seen (Done port local status bytes) = done_line port local (status_of status) (option_map (λ s. s.now) bytes)
 seen (Sync port time) = sync_line port time
 seen (No refusal) = no_line refusal
 seen (Bad number fault) = bad_line number fault

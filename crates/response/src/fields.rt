@@ -1,12 +1,13 @@
 ghost use Rattle.std.specs.Prelude.{◌≡◌, ◌<◌, ◌≤◌, [], ◌∷◌, ◌++◌, length};
 ghost use Rattle.std.specs.Option.{option_map};
 ghost use Rattle.std.specs.Fmt.{signed_decimal};
+ghost use Rattle.bus.specs.Answers.{status_of};
 ghost use Rattle.bus.specs.Numbers.{status_number};
 ghost use Rattle.response.specs.Lines.{tab, data_shown, ShortData};
 ghost use Rattle.response.specs.Texts.{text, onto, hex_digit, hex_digits};
 
 use crate::text::Text;
-use bus::Status;
+use bus::{AccessError, status_number};
 use itoa::{Buffer, Integer};
 
 fn start_field(out: &mut Text)
@@ -25,11 +26,11 @@ pub(crate) fn number_field<N: Integer>(out: &mut Text, n: N)
 }
 
 // TAB and the status's number.
-pub(crate) fn status_field(out: &mut Text, status: Status)
-    ensures text { text out.new ≡ onto (text out.old) (tab ++ signed_decimal (status_number status)) }
-    ensures short { length (signed_decimal (status_number status)) ≤ 11 }
+pub(crate) fn status_field(out: &mut Text, status: Result<(), AccessError>)
+    ensures text { text out.new ≡ onto (text out.old) (tab ++ signed_decimal (status_number (status_of status))) }
+    ensures short { length (signed_decimal (status_number (status_of status))) ≤ 11 }
 {
-    number_field(out, status.number());
+    number_field(out, status_number(status));
 }
 
 // The upper-case digit of a number below 16, which crate `hex` gives only in an allocated string.

@@ -4,17 +4,17 @@ ghost use Rattle.response.specs.Texts.{text, onto};
 
 use crate::fields::{data_field, number_field, status_field};
 use crate::text::Text;
-use bus::{Refusal, Status};
+use bus::{AccessError, Refusal};
 use script::PlayerFault;
 
 // What a player answers, a line each.
-#[derive(Clone, Copy)]
+#[derive(Clone, Copy, Debug, PartialEq, Eq)]
 pub enum Response<'a> {
     Set,
     Done {
         port: u64,
         local: u64,
-        status: Status,
+        status: Result<(), AccessError>,
         data: Option<&'a [u8]>,
     },
     Sync {
@@ -56,7 +56,7 @@ impl Response<'_> {
             }
             Response::No(refusal) => {
                 out.push(b"NO");
-                number_field(out, refusal.number());
+                number_field(out, u8::from(refusal));
             }
             Response::Bad { line, fault } => {
                 out.push(b"BAD");

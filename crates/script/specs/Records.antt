@@ -16,7 +16,7 @@ pub data Said : Type 0 where
   sync : (port : ℕ) → Said
 
 abbrev pub said : Record → Said
-said (Settings ports accept quantum start) = settings ports accept quantum start
+said (Settings a) = settings a.ports a.accept a.quantum a.start
 said (Blocking t) = blocking t.port t.command t.address t.length t.width t.enables.now t.«data».now
 said (Sync port) = sync port
 

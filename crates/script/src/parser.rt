@@ -8,6 +8,7 @@ use crate::faults::{FieldFault, RecordFault};
 use crate::fields::{count_fields, field};
 use crate::forms::{address, command, decimal, hexadecimal};
 use crate::records::{Record, Transfer};
+use protocol::Asked;
 use std::cmp::Ordering;
 
 // Field k after the letter, counted from 0, read by its form. The letter is field 1.
@@ -44,12 +45,12 @@ fn parse_settings(rest: &[u8]) -> Result<Record<'_>, RecordFault>
     let accept = form_at(rest, 1, decimal)?;
     let quantum = form_at(rest, 2, decimal)?;
     let start = form_at(rest, 3, decimal)?;
-    Ok(Record::Settings {
+    Ok(Record::Settings(Asked {
         ports,
         accept,
         quantum,
         start,
-    })
+    }))
 }
 
 fn parse_blocking(rest: &[u8]) -> Result<Record<'_>, RecordFault>

@@ -1,5 +1,7 @@
 ghost use Rattle.script.specs.Forms.{IsShort};
 
+use protocol::Asked;
+
 // A blocking call: the fields of the call and its data, in hexadecimal digits that are parts of the line, two to a byte.
 #[derive(Clone, Copy, Debug, PartialEq, Eq)]
 pub struct Transfer<'a> {
@@ -17,14 +19,7 @@ pub struct Transfer<'a> {
 // A line of the script.
 #[derive(Clone, Copy, Debug, PartialEq, Eq)]
 pub enum Record<'a> {
-    Settings {
-        ports: u64,
-        accept: u64,
-        quantum: u64,
-        start: u64,
-    },
+    Settings(Asked),
     Blocking(Transfer<'a>),
-    Sync {
-        port: u64,
-    },
+    Sync { port: u64 },
 }

@@ -12,7 +12,7 @@ pub returns-in-Sync-clause-text : goal.returns-in-Sync-clause-text
 returns-in-Sync-clause-text c = simp (c.in-Sync.is, c.number_field-in-Sync-2.ensures.text, c.number_field-in-Sync.ensures.text, c.push-in-Sync.ensures, onto_onto, append_assoc) refl
 
 pub returns-in-No-clause-text : goal.returns-in-No-clause-text
-returns-in-No-clause-text c = simp (c.in-No.is, c.number_field-in-No.ensures.text, c.number.ensures, c.push-in-No.ensures, onto_onto, append_assoc) refl
+returns-in-No-clause-text c = simp (c.in-No.is, c.number_field-in-No.ensures.text, c.from.ensures, c.push-in-No.ensures, onto_onto, append_assoc) refl
 
 pub returns-in-Bad-clause-text : goal.returns-in-Bad-clause-text
 returns-in-Bad-clause-text c = simp (c.in-Bad.is, c.number_field-in-Bad-3.ensures.text, c.cause.ensures, c.number_field-in-Bad-2.ensures.text, c.field.ensures, c.number_field-in-Bad.ensures.text, c.push-in-Bad.ensures, onto_onto, append_assoc) refl
