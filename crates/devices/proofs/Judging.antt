@@ -5,7 +5,7 @@ use Rattle.std.proofs.lemmas.Bool.{cond-true, cond-false, le-leb, lt-leb, leb-tr
 use Rattle.bus.specs.Map.{AddressMap, Cell, every_from, judged, present, allowed}
 use Rattle.bus.specs.declared.kinds.Command.{Command}
 use Rattle.bus.specs.declared.kinds.Command.TheVariants.{Read, Write, Ignore}
-use Rattle.bus.specs.declared.kinds.Status.TheVariants.{Okay, AddressError}
+use Rattle.bus.specs.Answers.{Okay, AddressError}
 use Rattle.devices.specs.Contents.{list_map, memory_map, memory_cell, image_map, image_cell, image_allows}
 use Rattle.devices.specs.Rows.{rows_map, row_cell, no_row}
 use Rattle.devices.specs.declared.row.Row.{Row}

@@ -1,4 +1,3 @@
 pub mod Judging
 pub mod Filling
 pub mod Storing
-pub mod Outcomes

@@ -1,4 +1,3 @@
-pub mod Delay
 pub mod Outcomes
 pub mod Contents
 pub mod Steps

@@ -1,15 +1,10 @@
 -- The small steps of which judging, reading and writing are made.
-use Rattle.std.specs.Prelude.{ℕ, ◌+◌, Bool, cond, List, length, ◌==◌, nat_le}
-use Rattle.bus.specs.declared.kinds.Status.{Status}
-use Rattle.bus.specs.declared.kinds.Status.TheVariants.{Okay, CommandError, GenericError}
+use Rattle.std.specs.Prelude.{ℕ, ◌+◌, Bool, cond, List, length, nat_le}
+use Rattle.bus.specs.Answers.{Status, Okay, CommandError}
 
 -- Whether the span from a lies below `size`.
 abbrev pub reaches : ℕ → List Bool → ℕ → Bool
 reaches a es size = nat_le (a + length es) size
-
--- A number of bytes other than the span's gets the generic error.
-abbrev pub status_sized : ℕ → List Bool → Status → Status
-status_sized count es status = cond (count == length es) status GenericError
 
 -- A disabled place keeps what it holds.
 abbrev pub chosen : Bool → (new old : ℕ) → ℕ

@@ -1,19 +1,16 @@
 ghost use Rattle.std.specs.Prelude.{◌≡◌, ◌+◌, ◌≤◌, length, take, replicate};
 ghost use Rattle.bus.specs.Map.{judged, written};
 ghost use Rattle.bus.specs.Target.{ReadAs, WrittenAs};
-ghost use Rattle.bus.specs.declared.kinds.Status.TheVariants.{Okay};
-ghost use Rattle.devices.specs.Delay.{limited};
+ghost use Rattle.bus.specs.Answers.{Okay, outcome_of, status_of};
+ghost use Rattle.bus.specs.Delay.{limited};
 ghost use Rattle.devices.specs.Outcomes.{Charged};
 ghost use Rattle.devices.specs.Rows.{no_row, rows_map};
 ghost use Rattle.std.proofs.Common.{rules, arith};
 
 use crate::at_most::at_most;
-use crate::meter::Meter;
-use crate::outcome::{refused, served};
-use crate::reach::sized;
 use crate::row::Row;
 use crate::rows;
-use bus::{Command, Outcome, Span, Status, Target};
+use bus::{AccessError, Command, Meter, Span, Target};
 
 const NO_ROW: Row = Row {
     readable: false,
@@ -54,7 +51,7 @@ impl Bank {
     pub fn new(rows: &[Row], latency: u64) -> Bank
         ensures map { rows_map (take result.count result.rows) ≡ rows_map (take 128 rows.now) }
         ensures meter { result.meter.spent ≡ 0 }
-        ensures latency { result.meter.latency ≡ limited latency }
+        ensures latency { result.meter.rate ≡ limited latency }
     {
         let first = at_most(rows, 128);
         Bank {
@@ -91,37 +88,35 @@ impl Target for Bank {
 
     ghost bounded = { first_of (Prim.search rules, Prim.grind (arith, Self.row.coded.inj)) };
 
-    fn judge(&self, command: Command, span: Span<'_>) -> Status
-        ensures answer { result ≡ judged (rows_map (take self.now.count self.now.rows)) command span.entry.start span.entry.enabled.now }
-        ensures within { result ≡ Okay → span.entry.start + length span.entry.enabled.now ≤ self.now.count }
+    fn judge(&self, command: Command, span: Span<'_>) -> Result<(), AccessError>
+        ensures answer { status_of result ≡ judged (rows_map (take self.now.count self.now.rows)) command span.entry.start span.entry.enabled.now }
+        ensures within { status_of result ≡ Okay → span.entry.start + length span.entry.enabled.now ≤ self.now.count }
     {
         rows::judge(self.present(), command, span)
     }
 
-    fn read(&mut self, span: Span<'_>, buffer: &mut [u8]) -> Outcome
-        ensures answer { ReadAs (rows_map (take self.old.count self.old.rows)) self.old.meter.spent span.entry.start span.entry.enabled.now buffer.old result buffer.new (rows_map (take self.new.count self.new.rows)) self.new.meter.spent }
-        ensures charge { Charged self.old.meter.latency self.new.meter.latency result }
+    fn read(&mut self, span: Span<'_>, buffer: &mut [u8]) -> Result<u64, AccessError>
+        ensures answer { ReadAs (rows_map (take self.old.count self.old.rows)) self.old.meter.spent span.entry.start span.entry.enabled.now buffer.old (outcome_of result) buffer.new (rows_map (take self.new.count self.new.rows)) self.new.meter.spent }
+        ensures charge { Charged self.old.meter.rate self.new.meter.rate (outcome_of result) }
     {
-        match sized(buffer.len(), span, self.judge(Command::Read, span)) {
-            Status::Okay => {
-                rows::fill(self.present(), span, buffer);
-                served(&mut self.meter)
-            }
-            status => refused(status),
+        if buffer.len() != span.enabled.len() {
+            return Err(AccessError::WrongLength);
         }
+        self.judge(Command::Read, span)?;
+        rows::fill(self.present(), span, buffer);
+        Ok(self.meter.charge())
     }
 
-    fn write(&mut self, span: Span<'_>, data: &[u8]) -> Outcome
-        ensures answer { WrittenAs (rows_map (take self.old.count self.old.rows)) self.old.meter.spent span.entry.start span.entry.enabled.now «data».now result (rows_map (take self.new.count self.new.rows)) self.new.meter.spent }
-        ensures charge { Charged self.old.meter.latency self.new.meter.latency result }
+    fn write(&mut self, span: Span<'_>, data: &[u8]) -> Result<u64, AccessError>
+        ensures answer { WrittenAs (rows_map (take self.old.count self.old.rows)) self.old.meter.spent span.entry.start span.entry.enabled.now «data».now (outcome_of result) (rows_map (take self.new.count self.new.rows)) self.new.meter.spent }
+        ensures charge { Charged self.old.meter.rate self.new.meter.rate (outcome_of result) }
     {
-        match sized(data.len(), span, self.judge(Command::Write, span)) {
-            Status::Okay => {
-                self.store(span, data);
-                served(&mut self.meter)
-            }
-            status => refused(status),
+        if data.len() != span.enabled.len() {
+            return Err(AccessError::WrongLength);
         }
+        self.judge(Command::Write, span)?;
+        self.store(span, data);
+        Ok(self.meter.charge())
     }
 
     fn meter(&self) -> u64 {

@@ -1,22 +1,22 @@
 ghost use Rattle.std.specs.Prelude.{◌≡◌, ◌+◌, ◌≤◌, length};
 ghost use Rattle.bus.specs.Map.{judged, filled, written};
 ghost use Rattle.bus.specs.declared.kinds.Command.{Command};
-ghost use Rattle.bus.specs.declared.kinds.Status.TheVariants.{Okay};
+ghost use Rattle.bus.specs.Answers.{Okay, status_of};
 ghost use Rattle.devices.specs.Contents.{memory_map};
 
 use crate::place::{choose, merge};
 use crate::reach::lies_below;
-use bus::{Span, Status};
+use bus::{AccessError, Span};
 
 // How memory of these bytes judges the span. It gives every right, so the command does not matter.
-pub(crate) fn judge(bytes: &[u8], span: Span<'_>) -> Status
-    ensures answer { (command : Command) → result ≡ judged (memory_map bytes.now) command span.entry.start span.entry.enabled.now }
-    ensures within { result ≡ Okay → span.entry.start + length span.entry.enabled.now ≤ length bytes.now }
+pub(crate) fn judge(bytes: &[u8], span: Span<'_>) -> Result<(), AccessError>
+    ensures answer { (command : Command) → status_of result ≡ judged (memory_map bytes.now) command span.entry.start span.entry.enabled.now }
+    ensures within { status_of result ≡ Okay → span.entry.start + length span.entry.enabled.now ≤ length bytes.now }
 {
     if lies_below(span, bytes.len()) {
-        Status::Okay
+        Ok(())
     } else {
-        Status::AddressError
+        Err(AccessError::AbsentByte)
     }
 }
 

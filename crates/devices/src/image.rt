@@ -1,11 +1,11 @@
 ghost use Rattle.std.specs.Prelude.{◌≡◌, ℕ, ◌+◌, ◌≤◌, true, List, length};
 ghost use Rattle.bus.specs.Map.{judged, filled};
-ghost use Rattle.bus.specs.declared.kinds.Status.TheVariants.{Okay};
+ghost use Rattle.bus.specs.Answers.{Okay, status_of};
 ghost use Rattle.devices.specs.Contents.{image_allows, image_map};
 
 use crate::bytes;
 use crate::reach::{lies_below, right};
-use bus::{Command, Span, Status};
+use bus::{AccessError, Command, Span};
 
 // What holds bytes for reading.
 pub trait Image {
@@ -34,15 +34,15 @@ fn allows(command: Command) -> bool
 }
 
 // How an image judges the span.
-pub(crate) fn judge(image: &[u8], command: Command, span: Span<'_>) -> Status
-    ensures answer { result ≡ judged (image_map image.now) command span.entry.start span.entry.enabled.now }
-    ensures within { result ≡ Okay → span.entry.start + length span.entry.enabled.now ≤ length image.now }
-    ensures right { result ≡ Okay → image_allows command ≡ true }
+pub(crate) fn judge(image: &[u8], command: Command, span: Span<'_>) -> Result<(), AccessError>
+    ensures answer { status_of result ≡ judged (image_map image.now) command span.entry.start span.entry.enabled.now }
+    ensures within { status_of result ≡ Okay → span.entry.start + length span.entry.enabled.now ≤ length image.now }
+    ensures right { status_of result ≡ Okay → image_allows command ≡ true }
 {
     if lies_below(span, image.len()) {
         right(allows(command))
     } else {
-        Status::AddressError
+        Err(AccessError::AbsentByte)
     }
 }
 

@@ -5,8 +5,6 @@ mod at_most;
 mod bank;
 mod bytes;
 mod image;
-mod meter;
-mod outcome;
 mod place;
 mod reach;
 mod rom;
@@ -15,8 +13,8 @@ mod rows;
 mod scratchpad;
 
 pub use bank::Bank;
+pub use bus::Meter;
 pub use image::Image;
-pub use meter::Meter;
 pub use rom::Rom;
 pub use row::Row;
 pub use scratchpad::Scratchpad;

@@ -1,8 +1,8 @@
-ghost use Rattle.std.specs.Prelude.{◌≡◌, length};
-ghost use Rattle.bus.specs.declared.kinds.Status.TheVariants.{Okay};
-ghost use Rattle.devices.specs.Steps.{reaches, right_status, status_sized};
+ghost use Rattle.std.specs.Prelude.{◌≡◌};
+ghost use Rattle.bus.specs.Answers.{status_of};
+ghost use Rattle.devices.specs.Steps.{reaches, right_status};
 
-use bus::{Span, Status};
+use bus::{AccessError, Span};
 
 // Whether the span lies below the size.
 pub(crate) fn lies_below(span: Span<'_>, size: usize) -> bool
@@ -11,25 +11,13 @@ pub(crate) fn lies_below(span: Span<'_>, size: usize) -> bool
     span.start as usize + span.enabled.len() <= size
 }
 
-// The status of bytes that are all present, by whether the command may touch them.
-pub(crate) fn right(allowed: bool) -> Status
-    ensures { result ≡ right_status allowed }
+// How bytes are judged that are all present, by whether the command may touch them.
+pub(crate) fn right(allowed: bool) -> Result<(), AccessError>
+    ensures { status_of result ≡ right_status allowed }
 {
     if allowed {
-        Status::Okay
+        Ok(())
     } else {
-        Status::CommandError
-    }
-}
-
-// A buffer or data that is not of the span's length gets the generic error, however the span is judged.
-pub(crate) fn sized(count: usize, span: Span<'_>, judged: Status) -> Status
-    ensures status { result ≡ status_sized count span.entry.enabled.now judged }
-    ensures okay { result ≡ Okay → (count ≡ length span.entry.enabled.now) × (judged ≡ Okay) }
-{
-    if count == span.enabled.len() {
-        judged
-    } else {
-        Status::GenericError
+        Err(AccessError::MissingRight)
     }
 }

@@ -1,9 +1,9 @@
 ghost use Rattle.std.specs.Prelude.{◌≡◌, ℕ, ◌+◌, ◌≤◌, true, List, length, take};
 ghost use Rattle.bus.specs.Map.{judged};
 ghost use Rattle.bus.specs.Target.{ReadAs, WrittenAs};
-ghost use Rattle.bus.specs.declared.kinds.Status.TheVariants.{Okay};
+ghost use Rattle.bus.specs.Answers.{Okay, outcome_of, status_of};
 ghost use Rattle.devices.specs.Contents.{image_allows, image_map, image_cell};
-ghost use Rattle.devices.specs.Delay.{limited};
+ghost use Rattle.bus.specs.Delay.{limited};
 ghost use Rattle.devices.specs.Outcomes.{Charged};
 ghost use Rattle.std.proofs.Common.{arith};
 ghost use Rattle.std.proofs.lemmas.List.{length-take};
@@ -12,10 +12,7 @@ ghost use Rattle.devices.specs.Bounds.{past};
 use crate::at_most::at_most;
 use crate::image;
 use crate::image::Image;
-use crate::meter::Meter;
-use crate::outcome::{refused, served};
-use crate::reach::sized;
-use bus::{Command, Outcome, Span, Status, Target};
+use bus::{AccessError, Command, Meter, Span, Target};
 
 // An image that may only be read, from address 0 on. What lies past 65,536 bytes is not present.
 #[derive(Drop)]
@@ -28,7 +25,7 @@ impl<I: Image> Rom<I> {
     pub fn new(image: I, latency: u64) -> Rom<I>
         ensures map { image_map (take 65536 (I.Image.bytes result.image)) ≡ image_map (take 65536 (I.Image.bytes image)) }
         ensures meter { result.meter.spent ≡ 0 }
-        ensures latency { result.meter.latency ≡ limited latency }
+        ensures latency { result.meter.rate ≡ limited latency }
     {
         Rom {
             image,
@@ -52,33 +49,36 @@ impl<I: Image> Target for Rom<I> {
 
     ghost bounded = { λ s a l. past 0 image_cell (take 65536 (I.Image.bytes s.image)) a (omega (arith, length-take 65536 (I.Image.bytes s.image))) };
 
-    fn judge(&self, command: Command, span: Span<'_>) -> Status
-        ensures answer { result ≡ judged (image_map (take 65536 (I.Image.bytes self.now.image))) command span.entry.start span.entry.enabled.now }
-        ensures within { result ≡ Okay → span.entry.start + length span.entry.enabled.now ≤ length (take 65536 (I.Image.bytes self.now.image)) }
-        ensures right { result ≡ Okay → image_allows command ≡ true }
+    fn judge(&self, command: Command, span: Span<'_>) -> Result<(), AccessError>
+        ensures answer { status_of result ≡ judged (image_map (take 65536 (I.Image.bytes self.now.image))) command span.entry.start span.entry.enabled.now }
+        ensures within { status_of result ≡ Okay → span.entry.start + length span.entry.enabled.now ≤ length (take 65536 (I.Image.bytes self.now.image)) }
+        ensures right { status_of result ≡ Okay → image_allows command ≡ true }
     {
         image::judge(self.present(), command, span)
     }
 
-    fn read(&mut self, span: Span<'_>, buffer: &mut [u8]) -> Outcome
-        ensures answer { ReadAs (image_map (take 65536 (I.Image.bytes self.old.image))) self.old.meter.spent span.entry.start span.entry.enabled.now buffer.old result buffer.new (image_map (take 65536 (I.Image.bytes self.new.image))) self.new.meter.spent }
-        ensures charge { Charged self.old.meter.latency self.new.meter.latency result }
+    fn read(&mut self, span: Span<'_>, buffer: &mut [u8]) -> Result<u64, AccessError>
+        ensures answer { ReadAs (image_map (take 65536 (I.Image.bytes self.old.image))) self.old.meter.spent span.entry.start span.entry.enabled.now buffer.old (outcome_of result) buffer.new (image_map (take 65536 (I.Image.bytes self.new.image))) self.new.meter.spent }
+        ensures charge { Charged self.old.meter.rate self.new.meter.rate (outcome_of result) }
     {
-        match sized(buffer.len(), span, self.judge(Command::Read, span)) {
-            Status::Okay => {
-                image::fill(self.present(), span, buffer);
-                served(&mut self.meter)
-            }
-            status => refused(status),
+        if buffer.len() != span.enabled.len() {
+            return Err(AccessError::WrongLength);
         }
+        self.judge(Command::Read, span)?;
+        image::fill(self.present(), span, buffer);
+        Ok(self.meter.charge())
     }
 
     // No span may be written, so every write is refused.
-    fn write(&mut self, span: Span<'_>, data: &[u8]) -> Outcome
-        ensures answer { WrittenAs (image_map (take 65536 (I.Image.bytes self.old.image))) self.old.meter.spent span.entry.start span.entry.enabled.now «data».now result (image_map (take 65536 (I.Image.bytes self.new.image))) self.new.meter.spent }
-        ensures charge { Charged self.old.meter.latency self.new.meter.latency result }
+    fn write(&mut self, span: Span<'_>, data: &[u8]) -> Result<u64, AccessError>
+        ensures answer { WrittenAs (image_map (take 65536 (I.Image.bytes self.old.image))) self.old.meter.spent span.entry.start span.entry.enabled.now «data».now (outcome_of result) (image_map (take 65536 (I.Image.bytes self.new.image))) self.new.meter.spent }
+        ensures charge { Charged self.old.meter.rate self.new.meter.rate (outcome_of result) }
     {
-        refused(sized(data.len(), span, self.judge(Command::Write, span)))
+        if data.len() != span.enabled.len() {
+            return Err(AccessError::WrongLength);
+        }
+        self.judge(Command::Write, span)?;
+        unreachable!()
     }
 
     fn meter(&self) -> u64 {

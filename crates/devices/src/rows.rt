@@ -1,12 +1,12 @@
 ghost use Rattle.std.specs.Prelude.{◌≡◌, ◌+◌, ◌≤◌, length};
 ghost use Rattle.bus.specs.Map.{allowed, every_from, filled, judged, written};
-ghost use Rattle.bus.specs.declared.kinds.Status.TheVariants.{Okay};
+ghost use Rattle.bus.specs.Answers.{Okay, status_of};
 ghost use Rattle.devices.specs.Rows.{rows_map};
 
 use crate::place::choose;
 use crate::reach::{lies_below, right};
 use crate::row::Row;
-use bus::{Command, Span, Status};
+use bus::{AccessError, Command, Span};
 
 // Whether each row of the span gives the right.
 fn allow(rows: &[Row], command: Command, span: Span<'_>) -> bool
@@ -23,14 +23,14 @@ fn allow(rows: &[Row], command: Command, span: Span<'_>) -> bool
 }
 
 // How these rows judge the span.
-pub(crate) fn judge(rows: &[Row], command: Command, span: Span<'_>) -> Status
-    ensures answer { result ≡ judged (rows_map rows.now) command span.entry.start span.entry.enabled.now }
-    ensures within { result ≡ Okay → span.entry.start + length span.entry.enabled.now ≤ length rows.now }
+pub(crate) fn judge(rows: &[Row], command: Command, span: Span<'_>) -> Result<(), AccessError>
+    ensures answer { status_of result ≡ judged (rows_map rows.now) command span.entry.start span.entry.enabled.now }
+    ensures within { status_of result ≡ Okay → span.entry.start + length span.entry.enabled.now ≤ length rows.now }
 {
     if lies_below(span, rows.len()) {
         right(allow(rows, command, span))
     } else {
-        Status::AddressError
+        Err(AccessError::AbsentByte)
     }
 }
 
