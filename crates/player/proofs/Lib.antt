@@ -1,4 +1,2 @@
-pub mod Buffer
 pub mod Shown
-pub mod Digits
 pub mod Stream

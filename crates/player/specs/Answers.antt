@@ -1,7 +1,8 @@
 -- The answer to one line of a script.
-use Rattle.std.specs.Prelude.{◌≡◌, ℕ, ◌≤◌, min, Bool, cond, ◌&&◌, List, [], length, replicate, Some, None, Ok, Err, Option, Result, MatchResult, ◌==◌}
+use Rattle.std.specs.Prelude.{◌≡◌, ℕ, min, Bool, cond, ◌&&◌, List, [], length, replicate, Some, None, Ok, Err, Option, Result, MatchResult, ◌==◌}
 use Rattle.bus.specs.Numbers.{is_okay}
-use Rattle.protocol.specs.Settings.{Asked, settled}
+use Rattle.protocol.specs.Settings.{settled}
+use Rattle.protocol.specs.declared.settings.Asked.{Asked}
 use Rattle.protocol.specs.Runs.{State, Call, blocking, sync, Answer, refused, served, synced}
 use Rattle.protocol.specs.Rules.{Answered, fresh}
 use Rattle.lines.specs.Lines.{Held, line_of}
@@ -19,10 +20,6 @@ use Rattle.player.specs.Start.{start_map}
 -- The buffer of a blocking call: a WRITE's data, else zeros. Data that may not come leaves it empty, which is refused.
 abbrev pub buffer_for : (command len : ℕ) → List ℕ → List ℕ
 buffer_for command len bytes = cond (command == 1) bytes (cond (length bytes == 0) (replicate (min len 64) 0) [])
-
--- Its size, where so many bytes of data were given.
-abbrev pub buffer_size : (command len given : ℕ) → ℕ
-buffer_size command len given = cond (command == 1) given (cond (given == 0) (min len 64) 0)
 
 abbrev pub blocking_call : (port command address len width : ℕ) → (enables digits : List ℕ) → Call
 blocking_call port command address len width enables digits = blocking port (record { command = command; address = address; length = len; width = width; enables = bytes_of enables }) (buffer_for command len (bytes_of digits))
@@ -54,12 +51,6 @@ abbrev pub SaidAnswered : Said → (s : State) → Line → (s' : State) → Typ
 SaidAnswered (records.settings ports accept quantum start) s l s' = SettingsAnswered (record { ports = ports; accept = accept; quantum = quantum; start = start }) s l s'
 SaidAnswered (records.blocking port command address len width enables digits) s l s' = CallAnswered (blocking_call port command address len width enables digits) (blocking_line port command) s l s'
 SaidAnswered (records.sync port) s l s' = CallAnswered (sync port) (sync_line port) s l s'
-
--- Enables and data have at most 256 digits.
-abbrev pub ShortDigits : Said → Type 0
-ShortDigits (records.settings ports accept quantum start) = Unit {0}
-ShortDigits (records.blocking port command address len width enables digits) = (length enables ≤ 256) × (length digits ≤ 256)
-ShortDigits (records.sync port) = Unit {0}
 
 -- What a line says, or its fault; none is one that is too long.
 abbrev pub fault_in : Result Said RecordFault → Result Said PlayerFault

@@ -3,7 +3,7 @@ use Rattle.std.specs.Prelude.{replicate}
 use Rattle.bus.specs.Map.{AddressMap}
 use Rattle.devices.specs.Contents.{memory_map}
 use Rattle.devices.specs.declared.scratchpad.Scratchpad.{Scratchpad}
-use Rattle.protocol.specs.Settings.{Asked}
+use Rattle.protocol.specs.declared.settings.Asked.{Asked}
 use Rattle.protocol.specs.Runs.{State}
 use Rattle.protocol.specs.Rules.{fresh}
 use Rattle.platform.specs.States.{state}

@@ -1,42 +1,49 @@
-ghost use Rattle.std.specs.Prelude.{◌≡◌, ℕ, ◌≤◌, min, ◌&&◌, ◌++◌, length, take, drop, replicate, if◌then◌else◌, Some, None, ◌≢◌, nat_eq};
+ghost use Rattle.std.specs.Prelude.{◌≡◌, ◌≤◌, ◌&&◌, replicate, if◌then◌else◌, Some, None, nat_eq};
 ghost use Rattle.std.specs.Option.{option_map};
+ghost use Rattle.bus.specs.Answers.{status_of};
 ghost use Rattle.bus.specs.Numbers.{is_okay};
-ghost use Rattle.bus.specs.Payload.{raw};
-ghost use Rattle.protocol.specs.Runs.{blocking};
 ghost use Rattle.platform.specs.States.{blocking_answer};
-ghost use Rattle.response.specs.Lines.{seen, shown};
+ghost use Rattle.response.specs.Lines.{seen};
 ghost use Rattle.response.specs.Texts.{text};
 ghost use Rattle.script.specs.Forms.{bytes_of};
 ghost use Rattle.player.specs.Start.{state_of};
-ghost use Rattle.player.specs.Answers.{CallAnswered, blocking_call, blocking_line, buffer_for, buffer_size, Printed};
+ghost use Rattle.player.specs.Answers.{CallAnswered, blocking_call, blocking_line, buffer_for, Printed};
 
 use crate::interconnect::Interconnect;
-use bus::{Fields, Refusal, Status};
+use arrayvec::ArrayVec;
+use bus::{AccessError, Command, Fields, Refusal};
 use platform::{Blocked, Platform};
 use response::{Response, Text};
-use script::decode;
+use script::{Transfer, decode};
 
-// How many bytes the buffer of a call has for which so many bytes of data were given.
-fn buffer_size(command: u8, length: u64, given: usize) -> usize
-    ensures { result ≡ buffer_size command length given }
+fn zeros(count: usize) -> ArrayVec<u8, 128>
+    requires { count ≤ 128 }
+    ensures { result.items ≡ replicate count 0 }
 {
-    if command == 1 {
-        given
-    } else if given == 0 {
-        length.min(64) as usize
-    } else {
-        0
+    let mut zeros = ArrayVec::from([0; 128]);
+    zeros.truncate(count);
+    zeros
+}
+
+// The buffer of a call: a WRITE's data, else zeros. Data that may not come leaves it empty, which is refused.
+fn buffer_for(call: Transfer<'_>) -> ArrayVec<u8, 128>
+    ensures { result.items ≡ buffer_for call.entry.command call.entry.length (bytes_of call.entry.«data».now) }
+{
+    let bytes = decode(call.data);
+    match Command::try_from(call.command) {
+        Ok(Command::Write) => bytes,
+        _ if bytes.is_empty() => zeros(call.length.min(64) as usize),
+        _ => ArrayVec::new(),
     }
 }
 
 // A READ of status 1 shows its bytes.
-fn shown_data(command: u8, status: Status, buffer: &[u8]) -> Option<&[u8]>
-    ensures { option_map (λ x. x.now) result ≡ (if nat_eq command 0 && is_okay status then Some buffer.now else None) }
+fn shown_data(command: u8, status: Result<(), AccessError>, buffer: &[u8]) -> Option<&[u8]>
+    ensures { option_map (λ x. x.now) result ≡ (if nat_eq command 0 && is_okay (status_of status) then Some buffer.now else None) }
 {
-    if command == 0 && status.is_okay() {
-        Some(buffer)
-    } else {
-        None
+    match (Command::try_from(command), status) {
+        (Ok(Command::Read), Ok(())) => Some(buffer),
+        _ => None,
     }
 }
 
@@ -54,55 +61,19 @@ fn respond(port: u64, command: u8, answer: Result<Blocked, Refusal>, buffer: &[u
     }
 }
 
-// The bytes of the digits, in the front of zeros, and how many they are.
-pub(crate) fn decoded(digits: &[u8]) -> ([u8; 128], usize)
-    requires { length digits.now ≤ 256 }
-    ensures bytes { result.0 ≡ bytes_of digits.now ++ drop (length (bytes_of digits.now)) (replicate 128 0) }
-    ensures count { result.1 ≡ length (bytes_of digits.now) }
-    ensures within { result.1 ≤ 128 }
+// A K line: makes the call and writes its answer.
+pub(crate) fn block(platform: &mut Platform<Interconnect>, call: Transfer<'_>, out: &mut Text)
+    ensures { Printed (text out.new) (λ l. CallAnswered (blocking_call call.entry.port call.entry.command call.entry.address call.entry.length call.entry.width call.entry.enables.now call.entry.«data».now) (blocking_line call.entry.port call.entry.command) (state_of platform.old) l (state_of platform.new)) }
 {
-    let mut bytes = [0; 128];
-    let count = decode(digits, &mut bytes);
-    (bytes, count)
-}
-
-// The buffer of a call, in the front of an array, and its size.
-fn gather(command: u8, count: u64, digits: &[u8]) -> ([u8; 128], usize)
-    requires { length digits.now ≤ 256 }
-    ensures buffer { take result.1 result.0 ≡ buffer_for command count (bytes_of digits.now) }
-    ensures within { result.1 ≤ 128 }
-    ensures short { (command ≢ 1) → result.1 ≤ 64 }
-{
-    let (bytes, given) = decoded(digits);
-    (bytes, buffer_size(command, count, given))
-}
-
-// Makes the call and writes its answer.
-fn call(
-    platform: &mut Platform<Interconnect>,
-    port: u64,
-    fields: Fields<'_>,
-    buffer: &mut [u8],
-    out: &mut Text,
-)
-    requires { (fields.command ≢ 1) → length buffer.old ≤ 64 }
-    ensures { Printed (text out.new) (λ l. CallAnswered (blocking port (raw fields.entry) buffer.old) (blocking_line port fields.entry.command) (state_of platform.old) l (state_of platform.new)) }
-{
-    let answer = platform.blocking(port, fields, buffer);
-    respond(port, fields.command, answer, buffer).print(out);
-}
-
-// A K line, its enables and its data as digits.
-pub(crate) fn block(
-    platform: &mut Platform<Interconnect>,
-    port: u64,
-    fields: Fields<'_>,
-    digits: &[u8],
-    out: &mut Text,
-)
-    requires { length digits.now ≤ 256 }
-    ensures { Printed (text out.new) (λ l. CallAnswered (blocking port (raw fields.entry) (buffer_for fields.entry.command fields.entry.length (bytes_of digits.now))) (blocking_line port fields.entry.command) (state_of platform.old) l (state_of platform.new)) }
-{
-    let (mut bytes, size) = gather(fields.command, fields.length, digits);
-    call(platform, port, fields, &mut bytes[0..size], out);
+    let enables = decode(call.enables);
+    let mut buffer = buffer_for(call);
+    let fields = Fields {
+        command: call.command,
+        address: call.address,
+        length: call.length,
+        width: call.width,
+        enables: enables.as_slice(),
+    };
+    let answer = platform.blocking(call.port, fields, buffer.as_mut_slice());
+    respond(call.port, call.command, answer, buffer.as_slice()).print(out);
 }

@@ -6,21 +6,15 @@ ghost use Rattle.player.specs.Answers.{SettingsAnswered, CallAnswered, sync_line
 
 use crate::interconnect::{Interconnect, interconnect};
 use platform::Platform;
-use protocol::Settings;
+use protocol::{Asked, Settings};
 use response::Response;
 
 // A P line: a new platform in the place of the one at hand, unless the settings are refused.
-pub(crate) fn set_up(
-    platform: &mut Platform<Interconnect>,
-    ports: u64,
-    accept: u64,
-    quantum: u64,
-    start: u64,
-) -> Response<'static>
+pub(crate) fn set_up(platform: &mut Platform<Interconnect>, asked: Asked) -> Response<'static>
     ensures short { Short (seen result) }
-    ensures answer { SettingsAnswered (record { ports = ports; accept = accept; quantum = quantum; start = start }) (state_of platform.old) (seen result) (state_of platform.new) }
+    ensures answer { SettingsAnswered asked (state_of platform.old) (seen result) (state_of platform.new) }
 {
-    match Settings::new(ports, accept, quantum, start) {
+    match Settings::try_from(asked) {
         Ok(settings) => {
             *platform = Platform::new(settings, interconnect());
             Response::Set

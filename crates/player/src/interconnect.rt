@@ -10,7 +10,7 @@ pub(crate) type Interconnect = Scratchpad;
 pub(crate) fn interconnect() -> Interconnect
     ensures map { memory_map result.bytes ≡ start_map }
     ensures meter { result.meter.spent ≡ 0 }
-    ensures latency { result.meter.latency ≡ 5 }
+    ensures latency { result.meter.rate ≡ 5 }
 {
     Scratchpad::new(5)
 }

@@ -10,8 +10,10 @@ pub struct Player {
     pub(crate) number: u64,
 }
 
-// How many bytes a player took, and whether they ended a line, which it has then answered.
-#[derive(Clone, Copy)]
+// How many bytes a player took, and whether they ended a line, which it has then answered. The answer itself stands in
+// the text that the caller lends: a slice of it here would take the text from the caller, of which no clause could then
+// say what it holds.
+#[derive(Clone, Copy, Debug, PartialEq, Eq)]
 pub struct Taken {
     pub used: usize,
     pub answered: bool,
