@@ -2,10 +2,11 @@ ghost use Rattle.script.specs.Forms.{IsShort};
 
 use protocol::Asked;
 
-// A blocking call: the fields of the call and its data, in hexadecimal digits that are parts of the line, two to a byte.
+// A blocking call. Its enables and its data are parts of the line: hexadecimal digits, two to a byte.
 #[derive(Clone, Copy, Debug, PartialEq, Eq)]
 pub struct Transfer<'a> {
     pub port: u64,
+    // as it stands: any byte may be given, and the call refuses what is no command
     pub command: u8,
     pub address: u32,
     pub length: u64,
