@@ -5,25 +5,15 @@ use Rattle.bus.specs.Map.{AddressMap, judged}
 use Rattle.bus.specs.Numbers.{is_okay}
 use Rattle.bus.specs.Target.{ReadAs, WrittenAs, if_okay}
 use Rattle.bus.specs.declared.kinds.Command.TheVariants.{Read}
-use Rattle.bus.specs.declared.kinds.Status.{Status}
-use Rattle.bus.specs.declared.kinds.Status.TheVariants.{Okay, AddressError, CommandError, GenericError}
-use Rattle.bus.specs.declared.kinds.Outcome.{Outcome}
+use Rattle.bus.specs.Answers.{Status}
+use Rattle.bus.specs.Answers.{Okay, AddressError, CommandError, GenericError}
+use Rattle.bus.specs.Answers.{Outcome}
 use Rattle.layers.specs.Access.{Reached, more, OneRead, OneWrite, Asked, PieceRead}
 use Rattle.layers.specs.Lines.{whole, holds, after_piece}
 use Rattle.layers.specs.Steps.{cut}
 
-module _ {X : Type 0} (map : X → AddressMap) (meter : X → ℕ) (a : ℕ) (es : List Bool) (next : ℕ → ℕ) (i j : ℕ) (to : j ≡ next i) (a₁ : ℕ) (es₁ : List Bool) (at : a₁ ≡ a + i) (of : es₁ ≡ cut i j es) (x y z : X) where
-  pub one_read_more : (before : List ℕ) (r : Outcome) (after : List ℕ) → Reached (λ u v. OneRead map meter es (a + u) u v) next i x y → ReadAs (map y) (meter y) a₁ es₁ before r after (map z) (meter z) → Reached (λ u v. OneRead map meter es (a + u) u v) next j x z
-  one_read_more before r after sofar read =
-      let here : ReadAs (map y) (meter y) (a + i) (cut i j es) before r after (map z) (meter z) = subst (λ u. ReadAs (map y) (meter y) (a + i) u before r after (map z) (meter z)) of (subst (λ u. ReadAs (map y) (meter y) u es₁ before r after (map z) (meter z)) at read) in
-      let step : OneRead map meter es (a + i) i (next i) y z = subst (λ k. OneRead map meter es (a + i) i k y z) to (before, (r, (after, here))) in
-      subst (λ k. Reached (λ u v. OneRead map meter es (a + u) u v) next k x z) (sym to) (more sofar step)
-
-  pub one_write_more : (bytes : List ℕ) (r : Outcome) → Reached (λ u v. OneWrite map meter es bytes (a + u) u v) next i x y → WrittenAs (map y) (meter y) a₁ es₁ (cut i j bytes) r (map z) (meter z) → Reached (λ u v. OneWrite map meter es bytes (a + u) u v) next j x z
-  one_write_more bytes r sofar write =
-      let here : WrittenAs (map y) (meter y) (a + i) (cut i j es) (cut i j bytes) r (map z) (meter z) = subst (λ u. WrittenAs (map y) (meter y) (a + i) u (cut i j bytes) r (map z) (meter z)) of (subst (λ u. WrittenAs (map y) (meter y) u es₁ (cut i j bytes) r (map z) (meter z)) at write) in
-      let step : OneWrite map meter es bytes (a + i) i (next i) y z = subst (λ k. OneWrite map meter es bytes (a + i) i k y z) to (r, here) in
-      subst (λ k. Reached (λ u v. OneWrite map meter es bytes (a + u) u v) next k x z) (sym to) (more sofar step)
+pub one_more : {X : Type 0} (step : (i j : ℕ) → X → X → Type 0) (next : ℕ → ℕ) (i j : ℕ) (x y z : X) → j ≡ next i → Reached step next i x y → step i j y z → Reached step next j x z
+one_more step next i j x y z to sofar last = subst (λ k. Reached step next k x z) (sym to) (more sofar (subst (λ k. step i k y z) to last))
 
 pub all_reached : {X : Type 0} (step : (i j : ℕ) → X → X → Type 0) (next : ℕ → ℕ) (i n : ℕ) (x y : X) → i ≤ n → n ≤ i → Reached step next i x y → Reached step next n x y
 all_reached step next i n x y le ge sofar = let e : i ≡ n = omega arith in subst (λ k. Reached step next k x y) e sofar
@@ -32,20 +22,26 @@ all_reached step next i n x y le ge sofar = let e : i ≡ n = omega arith in sub
 cut_whole : {A : Type 0} (xs : List A) (n : ℕ) → length xs ≤ n → cut 0 n xs ≡ xs
 cut_whole xs n le = let e : n - 0 ≡ n = omega arith in ap (λ k. take k xs) e ∙ take_all n xs le
 
-module _ {X : Type 0} (map : X → AddressMap) (meter : X → ℕ) (es : List Bool) (x y : X) (a a₁ : ℕ) (es₁ : List Bool) (at : a₁ ≡ a) where
-  -- A part of a span, as the access has it.
-  pub one_read : (i j : ℕ) (before : List ℕ) (r : Outcome) (after : List ℕ) → es₁ ≡ cut i j es → ReadAs (map x) (meter x) a₁ es₁ before r after (map y) (meter y) → OneRead map meter es a i j x y
-  one_read i j before r after of read = (before, (r, (after, subst (λ u. ReadAs (map x) (meter x) a u before r after (map y) (meter y)) of (subst (λ u. ReadAs (map x) (meter x) u es₁ before r after (map y) (meter y)) at read))))
+module _ {X : Type 0} (map : X → AddressMap) (meter : X → ℕ) (es : List Bool) (x y : X) (a : ℕ) where
+  pub whole_read : (before : List ℕ) (r : Outcome) (after : List ℕ) → ReadAs (map x) (meter x) a es before r after (map y) (meter y) → OneRead map meter es a 0 (length es) x y
+  whole_read before r after read = (before, (r, (after, subst (λ u. ReadAs (map x) (meter x) a u before r after (map y) (meter y)) (sym (cut_whole es (length es) (omega arith))) read)))
 
-  pub one_write : (i j : ℕ) (bytes : List ℕ) (r : Outcome) → es₁ ≡ cut i j es → WrittenAs (map x) (meter x) a₁ es₁ (cut i j bytes) r (map y) (meter y) → OneWrite map meter es bytes a i j x y
-  one_write i j bytes r of write = (r, subst (λ u. WrittenAs (map x) (meter x) a u (cut i j bytes) r (map y) (meter y)) of (subst (λ u. WrittenAs (map x) (meter x) u es₁ (cut i j bytes) r (map y) (meter y)) at write))
+  pub whole_write : (bytes : List ℕ) (r : Outcome) → length bytes ≡ length es → WrittenAs (map x) (meter x) a es bytes r (map y) (meter y) → OneWrite map meter es bytes a 0 (length es) x y
+  whole_write bytes r long write =
+      (r, subst (λ u. WrittenAs (map x) (meter x) a u (cut 0 (length es) bytes) r (map y) (meter y)) (sym (cut_whole es (length es) (omega arith))) (subst (λ u. WrittenAs (map x) (meter x) a es u r (map y) (meter y)) (sym (cut_whole bytes (length es) (omega arith))) write))
 
-  pub whole_read : (before : List ℕ) (r : Outcome) (after : List ℕ) → es₁ ≡ es → ReadAs (map x) (meter x) a₁ es₁ before r after (map y) (meter y) → OneRead map meter es a 0 (length es) x y
-  whole_read before r after of read = one_read 0 (length es) before r after (of ∙ sym (cut_whole es (length es) (omega arith))) read
+-- A part of a span, which was accessed as a span of its own.
+module _ {X : Type 0} (map : X → AddressMap) (meter : X → ℕ) (a : ℕ) (es : List Bool) (i j : ℕ) (x y : X) (a₁ : ℕ) (es₁ : List Bool) (at : a₁ ≡ a) (of : es₁ ≡ cut i j es) where
+  pub part_read : OneRead map meter es₁ a₁ 0 (length es₁) x y → OneRead map meter es a i j x y
+  part_read read =
+      let whole : cut 0 (length es₁) es₁ ≡ cut i j es = cut_whole es₁ (length es₁) (omega arith) ∙ of in
+      (read.0, (read.1.0, (read.1.1.0, subst (λ u. ReadAs (map x) (meter x) u (cut i j es) read.0 read.1.0 read.1.1.0 (map y) (meter y)) at (subst (λ u. ReadAs (map x) (meter x) a₁ u read.0 read.1.0 read.1.1.0 (map y) (meter y)) whole read.1.1.1))))
 
-  pub whole_write : (bytes : List ℕ) (r : Outcome) → length bytes ≡ length es → es₁ ≡ es → WrittenAs (map x) (meter x) a₁ es₁ bytes r (map y) (meter y) → OneWrite map meter es bytes a 0 (length es) x y
-  whole_write bytes r long of write =
-      one_write 0 (length es) bytes r (of ∙ sym (cut_whole es (length es) (omega arith))) (subst (λ u. WrittenAs (map x) (meter x) a₁ es₁ u r (map y) (meter y)) (sym (cut_whole bytes (length es) (omega arith))) write)
+  pub part_write : (bytes : List ℕ) → length (cut i j bytes) ≡ length es₁ → OneWrite map meter es₁ (cut i j bytes) a₁ 0 (length es₁) x y → OneWrite map meter es bytes a i j x y
+  part_write bytes long write =
+      let whole : cut 0 (length es₁) es₁ ≡ cut i j es = cut_whole es₁ (length es₁) (omega arith) ∙ of in
+      let all : cut 0 (length es₁) (cut i j bytes) ≡ cut i j bytes = cut_whole (cut i j bytes) (length es₁) (omega arith) in
+      (write.0, subst (λ u. WrittenAs (map x) (meter x) u (cut i j es) (cut i j bytes) write.0 (map y) (meter y)) at (subst (λ u. WrittenAs (map x) (meter x) a₁ u (cut i j bytes) write.0 (map y) (meter y)) whole (subst (λ u. WrittenAs (map x) (meter x) a₁ (cut 0 (length es₁) es₁) u write.0 (map y) (meter y)) all write.1)))
 
 -- What a piece asked below.
 pub asked_held : (b : Bool) (s : Status) (line piece stays : Type 0) → b ≡ true → stays → Asked b s line piece stays
@@ -82,17 +78,10 @@ asked_map false AddressError line piece piece' stays f asked = f asked
 asked_map false CommandError line piece piece' stays f asked = f asked
 asked_map false GenericError line piece piece' stays f asked = f asked
 
--- A piece as a span of its own, and as a part.
-module _ {X : Type 0} (map : X → AddressMap) (meter : X → ℕ) (a : ℕ) (es : List Bool) (next : ℕ → ℕ) (i j : ℕ) (to : j ≡ next i) (a₁ : ℕ) (es₁ : List Bool) (at : a₁ ≡ a + i) (of : es₁ ≡ cut i j es) (x y z : X) (ps qs rs : List (Option ℕ)) where
-  as_part : OneRead map meter es₁ (a + i) 0 (length es₁) y z → OneRead map meter es (a + i) i j y z
-  as_part read = (read.0, (read.1.0, (read.1.1.0, subst (λ u. ReadAs (map y) (meter y) (a + i) u read.0 read.1.0 read.1.1.0 (map z) (meter z)) (cut_whole es₁ (length es₁) (omega arith) ∙ of) read.1.1.1)))
-
-  pub one_piece_more : Reached (PieceRead map meter a es) next i (x, ps) (y, qs)
-      → Asked (holds qs (a₁ / 16)) (judged (map y) Read (a₁ / 16 * 16) whole) (OneRead map meter whole (a₁ / 16 * 16) 0 16 y z) (OneRead map meter es₁ a₁ 0 (length es₁) y z) (z ≡ y)
-      → rs ≡ after_piece (map y) (a₁ / 16) qs → Reached (PieceRead map meter a es) next j (x, ps) (z, rs)
-  one_piece_more sofar asked new =
-      let here : Asked (holds qs ((a + i) / 16)) (judged (map y) Read ((a + i) / 16 * 16) whole) (OneRead map meter whole ((a + i) / 16 * 16) 0 16 y z) (OneRead map meter es₁ (a + i) 0 (length es₁) y z) (z ≡ y) =
-      subst (λ u. Asked (holds qs (u / 16)) (judged (map y) Read (u / 16 * 16) whole) (OneRead map meter whole (u / 16 * 16) 0 16 y z) (OneRead map meter es₁ u 0 (length es₁) y z) (z ≡ y)) at asked in
-      let part = asked_map (holds qs ((a + i) / 16)) (judged (map y) Read ((a + i) / 16 * 16) whole) (OneRead map meter whole ((a + i) / 16 * 16) 0 16 y z) (OneRead map meter es₁ (a + i) 0 (length es₁) y z) (OneRead map meter es (a + i) i j y z) (z ≡ y) as_part here in
-      let step : PieceRead map meter a es i (next i) (y, qs) (z, rs) = subst (λ k. PieceRead map meter a es i k (y, qs) (z, rs)) to (part, new ∙ ap (λ u. after_piece (map y) (u / 16) qs) at) in
-      subst (λ k. Reached (PieceRead map meter a es) next k (x, ps) (z, rs)) (sym to) (more sofar step)
+-- A piece, which was read as a span of its own.
+module _ {X : Type 0} (map : X → AddressMap) (meter : X → ℕ) (a : ℕ) (es : List Bool) (i j : ℕ) (x y : X) (a₁ : ℕ) (es₁ : List Bool) (at : a₁ ≡ a + i) (of : es₁ ≡ cut i j es) (ps qs : List (Option ℕ)) where
+  pub piece_read : Asked (holds ps (a₁ / 16)) (judged (map x) Read (a₁ / 16 * 16) whole) (OneRead map meter whole (a₁ / 16 * 16) 0 16 x y) (OneRead map meter es₁ a₁ 0 (length es₁) x y) (y ≡ x)
+      → qs ≡ after_piece (map x) (a₁ / 16) ps → PieceRead map meter a es i j (x, ps) (y, qs)
+  piece_read asked new =
+      subst (λ k. Asked (holds ps (k / 16)) (judged (map x) Read (k / 16 * 16) whole) (OneRead map meter whole (k / 16 * 16) 0 16 x y) (OneRead map meter es (a + i) i j x y) (y ≡ x) × (qs ≡ after_piece (map x) (k / 16) ps)) at
+      (asked_map (holds ps (a₁ / 16)) (judged (map x) Read (a₁ / 16 * 16) whole) (OneRead map meter whole (a₁ / 16 * 16) 0 16 x y) (OneRead map meter es₁ a₁ 0 (length es₁) x y) (OneRead map meter es (a + i) i j x y) (y ≡ x) (part_read map meter (a + i) es i j x y a₁ es₁ at of) asked, new)

@@ -5,13 +5,13 @@ use Rattle.bus.specs.Map.{AddressMap, judged, filled, written}
 use Rattle.bus.specs.Laws.{Agree}
 use Rattle.bus.specs.Numbers.{worse}
 use Rattle.bus.specs.declared.kinds.Command.{Command}
-use Rattle.bus.specs.declared.kinds.Status.TheVariants.{AddressError}
+use Rattle.bus.specs.Answers.{AddressError}
 use Rattle.bus.proofs.Congruence.{congruence}
 use Rattle.bus.proofs.Cutting.{cutting}
 use Rattle.bus.proofs.Distance.{distance}
 use Rattle.layers.specs.Route.{routed}
 use Rattle.layers.specs.Steps.{cut}
-use Rattle.layers.proofs.FromBusAbsence.{absent}
+use Rattle.bus.proofs.Absence.{absent}
 use Rattle.layers.proofs.Spans.{length_cut, cut_two}
 
 module _ (b : ℕ) (l r : AddressMap) where

@@ -6,13 +6,13 @@ use Rattle.bus.specs.Map.{AddressMap, judged, filled, value_at}
 use Rattle.bus.specs.Numbers.{is_okay}
 use Rattle.bus.specs.Target.{if_okay}
 use Rattle.bus.specs.declared.kinds.Command.TheVariants.{Read}
-use Rattle.bus.specs.declared.kinds.Status.{Status}
-use Rattle.bus.specs.declared.kinds.Status.TheVariants.{Okay, AddressError, CommandError, GenericError}
+use Rattle.bus.specs.Answers.{Status}
+use Rattle.bus.specs.Answers.{Okay, AddressError, CommandError, GenericError}
 use Rattle.bus.proofs.Distance.{distance}
 use Rattle.layers.specs.Lines.{whole, no_line, line_of, line_in, Sound, held_in, held_ins, is_line, holds, after_piece}
 use Rattle.layers.specs.Steps.{chosen}
 use Rattle.layers.specs.declared.line.Line.{Line}
-use Rattle.layers.proofs.FromBusFilling.{filled_at}
+use Rattle.bus.proofs.Filling.{filled_at}
 
 held_at : (lines : List Line) (i : ℕ) → get_or (held_ins lines) i None ≡ held_in (get_or lines i no_line)
 held_at [] i = refl

@@ -1,5 +1,3 @@
-pub mod FromBusAbsence
-pub mod FromBusFilling
 pub mod Spans
 pub mod Counting
 pub mod Served

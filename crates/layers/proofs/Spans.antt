@@ -5,13 +5,13 @@ use Rattle.std.proofs.lemmas.Bool.{cases_lt}
 use Rattle.bus.specs.Map.{AddressMap, judged, filled, written}
 use Rattle.bus.specs.Numbers.{worse}
 use Rattle.bus.specs.declared.kinds.Command.{Command}
-use Rattle.bus.specs.declared.kinds.Status.{Status}
-use Rattle.bus.specs.declared.kinds.Status.TheVariants.{Okay, AddressError, CommandError, GenericError}
+use Rattle.bus.specs.Answers.{Status}
+use Rattle.bus.specs.Answers.{Okay, AddressError, CommandError, GenericError}
 use Rattle.bus.proofs.Cutting.{cutting}
 use Rattle.bus.proofs.Distance.{distance}
 use Rattle.bus.proofs.Parts.{take_both}
 use Rattle.layers.specs.Steps.{cut}
-use Rattle.layers.proofs.FromBusAbsence.{absent}
+use Rattle.bus.proofs.Absence.{absent}
 
 -- A whole is judged 1 only where both parts are.
 pub both_okay : (s t : Status) → worse s t ≡ Okay → (s ≡ Okay) × (t ≡ Okay)

@@ -3,8 +3,8 @@ use Rattle.std.specs.Prelude.{◌≡◌, ℕ, ◌+◌, ◌-◌, ◌*◌, ◌/◌
 use Rattle.bus.specs.Map.{AddressMap, judged}
 use Rattle.bus.specs.Target.{ReadAs, WrittenAs, if_okay}
 use Rattle.bus.specs.declared.kinds.Command.TheVariants.{Read}
-use Rattle.bus.specs.declared.kinds.Status.{Status}
-use Rattle.bus.specs.declared.kinds.Outcome.{Outcome}
+use Rattle.bus.specs.Answers.{Status}
+use Rattle.bus.specs.Answers.{Outcome}
 use Rattle.layers.specs.Lines.{whole, holds, after_piece}
 use Rattle.layers.specs.Steps.{cut}
 use Rattle.layers.specs.declared.sides.Sides.{Sides}

@@ -3,21 +3,22 @@ ghost use Rattle.bus.specs.Map.{judged};
 ghost use Rattle.bus.specs.Target.{ReadAs, WrittenAs, if_okay};
 ghost use Rattle.layers.specs.Access.{OneWrite, PieceRead, Reached};
 ghost use Rattle.layers.specs.Cut.{cut_at, pieces};
-ghost use Rattle.layers.specs.Delay.{Charged, limited, growth};
+ghost use Rattle.bus.specs.Answers.{outcome_of, status_of};
+ghost use Rattle.bus.specs.Delay.{limited, growth};
+ghost use Rattle.layers.specs.Delay.{Charged};
 ghost use Rattle.layers.specs.Lines.{Sound, held_ins, held_after_read, held_after_write};
 
+use crate::growth::growth_since;
 use crate::line::Line;
 use crate::lines::{read_lines, write_lines};
-use crate::outcome::{refused, served, sized};
-use crate::toll::{Toll, growth_since};
-use bus::{Command, Outcome, Span, Status, Target};
+use bus::{AccessError, Command, Meter, Span, Target, admit};
 
 // Keeps 8 lines of 16 bytes that were read below. A write goes through to the lower target.
 #[derive(Drop)]
 pub struct Cache<T> {
     lower: T,
     lines: [Line; 8],
-    toll: Toll,
+    meter: Meter,
 }
 
 impl<T: Target> Cache<T> {
@@ -26,62 +27,54 @@ impl<T: Target> Cache<T> {
         ensures lower { result.lower ≡ lower }
         ensures lines { held_ins result.lines ≡ replicate 8 None }
         ensures sound { Sound (T.Target.map result.lower) result.lines }
-        ensures charge { result.toll.charge ≡ limited charge }
-        ensures meter { result.toll.spent ≡ 0 }
+        ensures charge { result.meter.rate ≡ limited charge }
+        ensures meter { result.meter.spent ≡ 0 }
     {
         let line = Line::empty();
         Cache {
             lower,
             lines: [line; 8],
-            toll: Toll::new(charge),
+            meter: Meter::new(charge),
         }
     }
 
-    pub fn judge(&self, command: Command, span: Span<'_>) -> Status
-        ensures answer { result ≡ judged (T.Target.map self.now.lower) command span.entry.start span.entry.enabled.now }
+    pub fn judge(&self, command: Command, span: Span<'_>) -> Result<(), AccessError>
+        ensures answer { status_of result ≡ judged (T.Target.map self.now.lower) command span.entry.start span.entry.enabled.now }
         ensures still { self.exit.now ≡ self.entry.now }
     {
         self.lower.judge(command, span)
     }
 
-    pub fn read(&mut self, span: Span<'_>, buffer: &mut [u8]) -> Outcome
-        ensures answer { Sound (T.Target.map self.old.lower) self.old.lines → ReadAs (T.Target.map self.old.lower) self.old.toll.spent span.entry.start span.entry.enabled.now buffer.old result buffer.new (T.Target.map self.new.lower) self.new.toll.spent }
+    pub fn read(&mut self, span: Span<'_>, buffer: &mut [u8]) -> Result<u64, AccessError>
+        ensures answer { Sound (T.Target.map self.old.lower) self.old.lines → ReadAs (T.Target.map self.old.lower) self.old.meter.spent span.entry.start span.entry.enabled.now buffer.old (outcome_of result) buffer.new (T.Target.map self.new.lower) self.new.meter.spent }
         ensures sound { Sound (T.Target.map self.old.lower) self.old.lines → Sound (T.Target.map self.new.lower) self.new.lines }
-        ensures lines { held_ins self.new.lines ≡ if_okay result.status (held_after_read (T.Target.map self.old.lower) span.entry.start (length span.entry.enabled.now) (held_ins self.old.lines)) (held_ins self.old.lines) }
-        ensures charge { Charged self.old.toll.charge self.new.toll.charge (pieces 16 span.entry.start (length span.entry.enabled.now)) (growth (T.Target.meter self.old.lower) (T.Target.meter self.new.lower)) result }
-        ensures below { if_okay result.status (Reached (PieceRead T.Target.map T.Target.meter span.entry.start span.entry.enabled.now) (λ i. cut_at span.entry.start 16 i (length span.entry.enabled.now)) (length span.entry.enabled.now) (self.old.lower, held_ins self.old.lines) (self.new.lower, held_ins self.new.lines)) (self.new.lower ≡ self.old.lower) }
+        ensures lines { held_ins self.new.lines ≡ if_okay (status_of result) (held_after_read (T.Target.map self.old.lower) span.entry.start (length span.entry.enabled.now) (held_ins self.old.lines)) (held_ins self.old.lines) }
+        ensures charge { Charged self.old.meter.rate self.new.meter.rate (pieces 16 span.entry.start (length span.entry.enabled.now)) (growth (T.Target.meter self.old.lower) (T.Target.meter self.new.lower)) (outcome_of result) }
+        ensures below { if_okay (status_of result) (Reached (PieceRead T.Target.map T.Target.meter span.entry.start span.entry.enabled.now) (λ i. cut_at span.entry.start 16 i (length span.entry.enabled.now)) (length span.entry.enabled.now) (self.old.lower, held_ins self.old.lines) (self.new.lower, held_ins self.new.lines)) (self.new.lower ≡ self.old.lower) }
     {
-        match sized(buffer.len(), span, self.judge(Command::Read, span)) {
-            Status::Okay => {
-                let before = self.lower.meter();
-                let count = read_lines(&mut self.lower, &mut self.lines, span, buffer);
-                served(self.toll.settle(count, growth_since(&self.lower, before)))
-            }
-            status => refused(status),
-        }
+        admit(&self.lower, Command::Read, span, buffer)?;
+        let before = self.lower.meter();
+        let count = read_lines(&mut self.lower, &mut self.lines, span, buffer);
+        Ok(self.meter.settle(count, growth_since(&self.lower, before)))
     }
 
-    pub fn write(&mut self, span: Span<'_>, data: &[u8]) -> Outcome
-        ensures answer { WrittenAs (T.Target.map self.old.lower) self.old.toll.spent span.entry.start span.entry.enabled.now «data».now result (T.Target.map self.new.lower) self.new.toll.spent }
+    pub fn write(&mut self, span: Span<'_>, data: &[u8]) -> Result<u64, AccessError>
+        ensures answer { WrittenAs (T.Target.map self.old.lower) self.old.meter.spent span.entry.start span.entry.enabled.now «data».now (outcome_of result) (T.Target.map self.new.lower) self.new.meter.spent }
         ensures sound { Sound (T.Target.map self.old.lower) self.old.lines → Sound (T.Target.map self.new.lower) self.new.lines }
-        ensures lines { held_ins self.new.lines ≡ if_okay result.status (held_after_write span.entry.start (length span.entry.enabled.now) (held_ins self.old.lines)) (held_ins self.old.lines) }
-        ensures charge { Charged self.old.toll.charge self.new.toll.charge 1 (growth (T.Target.meter self.old.lower) (T.Target.meter self.new.lower)) result }
-        ensures below { if_okay result.status (OneWrite T.Target.map T.Target.meter span.entry.enabled.now «data».now span.entry.start 0 (length span.entry.enabled.now) self.old.lower self.new.lower) (self.new.lower ≡ self.old.lower) }
+        ensures lines { held_ins self.new.lines ≡ if_okay (status_of result) (held_after_write span.entry.start (length span.entry.enabled.now) (held_ins self.old.lines)) (held_ins self.old.lines) }
+        ensures charge { Charged self.old.meter.rate self.new.meter.rate 1 (growth (T.Target.meter self.old.lower) (T.Target.meter self.new.lower)) (outcome_of result) }
+        ensures below { if_okay (status_of result) (OneWrite T.Target.map T.Target.meter span.entry.enabled.now «data».now span.entry.start 0 (length span.entry.enabled.now) self.old.lower self.new.lower) (self.new.lower ≡ self.old.lower) }
     {
-        match sized(data.len(), span, self.judge(Command::Write, span)) {
-            Status::Okay => {
-                let before = self.lower.meter();
-                write_lines(&mut self.lower, &mut self.lines, span, data);
-                served(self.toll.settle(1, growth_since(&self.lower, before)))
-            }
-            status => refused(status),
-        }
+        admit(&self.lower, Command::Write, span, data)?;
+        let before = self.lower.meter();
+        write_lines(&mut self.lower, &mut self.lines, span, data);
+        Ok(self.meter.settle(1, growth_since(&self.lower, before)))
     }
 
     pub fn meter(&self) -> u64
-        ensures answer { result ≡ self.now.toll.spent }
+        ensures answer { result ≡ self.now.meter.spent }
         ensures still { self.exit.now ≡ self.entry.now }
     {
-        self.toll.spent()
+        self.meter.spent()
     }
 }

@@ -1,16 +1,16 @@
 #![tactic(auto)]
 
+mod below;
 mod bridge;
 mod cache;
+mod growth;
 mod lend;
 mod line;
 mod lines;
-mod outcome;
 mod pieces;
 mod router;
 mod routing;
 mod sides;
-mod toll;
 
 pub use bridge::Bridge;
 pub use cache::Cache;

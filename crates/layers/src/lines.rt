@@ -1,16 +1,17 @@
 ghost use Rattle.std.specs.Prelude.{◌≡◌, ◌+◌, ◌*◌, ◌/◌, ◌%◌, ◌^◌, ◌<◌, ◌≤◌, true, map, length, if◌then◌else◌, slice_set};
 ghost use Rattle.bus.specs.Map.{judged, filled, written};
 ghost use Rattle.bus.specs.declared.kinds.Command.TheVariants.{Read, Write};
-ghost use Rattle.bus.specs.declared.kinds.Status.TheVariants.{Okay};
+ghost use Rattle.bus.specs.Answers.{Okay};
 ghost use Rattle.bus.specs.Numbers.{is_okay};
 ghost use Rattle.bus.specs.Target.{if_okay};
 ghost use Rattle.layers.specs.Access.{Asked, OneRead, OneWrite, PieceRead, Reached};
 ghost use Rattle.layers.specs.Cut.{cut_at, pieces};
 ghost use Rattle.layers.specs.Lines.{Sound, whole, line_in, held_ins, holds, after_piece, held_after_read, held_after_write, line_unless_met};
 
+use crate::below::{read_below, write_below};
 use crate::lend::{part, piece_end};
 use crate::line::Line;
-use bus::{Command, Span, Status, Target};
+use bus::{Command, Span, Target};
 
 // The only place that may hold the line.
 fn place(number: u32) -> usize
@@ -36,17 +37,6 @@ fn drop_met(lines: &mut [Line; 8], span: Span<'_>)
     }
 }
 
-// Reads a span that is judged 1, in one access below.
-fn read_below<T: Target>(lower: &mut T, span: Span<'_>, buffer: &mut [u8])
-    requires length { length buffer.old ≡ length span.enabled.now }
-    requires judged { judged (T.Target.map lower.old) Read span.start span.enabled.now ≡ Okay }
-    ensures bytes { buffer.new ≡ filled (T.Target.map lower.old) span.entry.start span.entry.enabled.now buffer.old }
-    ensures map { T.Target.map lower.new ≡ T.Target.map lower.old }
-    ensures below { OneRead T.Target.map T.Target.meter span.entry.enabled.now span.entry.start 0 (length span.entry.enabled.now) lower.old lower.new }
-{
-    lower.read(span, buffer);
-}
-
 // The line as the lower target has it, if it may be read as a whole.
 fn fetch<T: Target>(lower: &mut T, number: u32) -> Option<Line>
     requires { number < 2 ^ 28 }
@@ -59,14 +49,10 @@ fn fetch<T: Target>(lower: &mut T, number: u32) -> Option<Line>
         start: number * 16,
         enabled: &marks,
     };
-    match lower.judge(Command::Read, span) {
-        Status::Okay => {
-            let mut bytes = [0; 16];
-            read_below(lower, span, &mut bytes);
-            Some(Line::kept(number, bytes))
-        }
-        _ => None,
-    }
+    lower.judge(Command::Read, span).ok()?;
+    let mut bytes = [0; 16];
+    read_below(lower, span, &mut bytes);
+    Some(Line::kept(number, bytes))
 }
 
 // Holds the line from now on if it can be, and answers whether it is held.
@@ -152,6 +138,6 @@ pub(crate) fn write_lines<T: Target>(
     ensures places { held_ins lines.new ≡ held_after_write span.entry.start (length span.entry.enabled.now) (held_ins lines.old) }
     ensures sound { Sound (T.Target.map lower.old) lines.old → Sound (T.Target.map lower.new) lines.new }
 {
-    lower.write(span, bytes);
+    write_below(lower, span, bytes);
     drop_met(lines, span);
 }

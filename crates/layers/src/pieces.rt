@@ -1,10 +1,11 @@
 ghost use Rattle.std.specs.Prelude.{◌≡◌, ◌+◌, ◌<◌, ◌≤◌, length};
 ghost use Rattle.bus.specs.Map.{judged, filled, written};
 ghost use Rattle.bus.specs.declared.kinds.Command.TheVariants.{Read, Write};
-ghost use Rattle.bus.specs.declared.kinds.Status.TheVariants.{Okay};
+ghost use Rattle.bus.specs.Answers.{Okay};
 ghost use Rattle.layers.specs.Access.{Reached, OneRead, OneWrite};
 ghost use Rattle.layers.specs.Cut.{cut_at, pieces};
 
+use crate::below::{read_below, write_below};
 use crate::lend::{part, piece_end};
 use bus::{Span, Target};
 
@@ -28,7 +29,7 @@ pub(crate) fn read_pieces<T: Target>(
     let mut at = 0;
     while at < span.enabled.len() {
         let end = piece_end(span, width, at);
-        lower.read(part(span, at, end), &mut buffer[at..end]);
+        read_below(lower, part(span, at, end), &mut buffer[at..end]);
         count += 1;
         at = end;
     }
@@ -54,7 +55,7 @@ pub(crate) fn write_pieces<T: Target>(
     let mut at = 0;
     while at < span.enabled.len() {
         let end = piece_end(span, width, at);
-        lower.write(part(span, at, end), &bytes[at..end]);
+        write_below(lower, part(span, at, end), &bytes[at..end]);
         count += 1;
         at = end;
     }

@@ -1,14 +1,18 @@
-ghost use Rattle.std.specs.Prelude.{◌≡◌, ◌+◌, ◌-◌, ◌^◌, ◌<◌, ◌≤◌, length, nat_lt};
+ghost use Rattle.std.specs.Prelude.{◌≡◌, ◌+◌, ◌-◌, ◌^◌, ◌<◌, ◌≤◌, length, nat_lt, OnOk};
 ghost use Rattle.bus.specs.Map.{judged, filled, written};
-ghost use Rattle.bus.specs.Numbers.{worse};
+ghost use Rattle.bus.specs.Target.{status_over};
+ghost use Rattle.bus.specs.Answers.{status_of};
 ghost use Rattle.bus.specs.declared.kinds.Command.TheVariants.{Read, Write};
-ghost use Rattle.bus.specs.declared.kinds.Status.TheVariants.{Okay};
+ghost use Rattle.bus.specs.Answers.{Okay};
 ghost use Rattle.layers.specs.Access.{AskedOnce, OneRead, OneWrite};
-ghost use Rattle.layers.specs.Route.{routed, sides_of};
+ghost use Rattle.layers.specs.Route.{routed_by, sides_of};
+ghost use Rattle.layers.specs.Steps.{cut};
 
+use crate::below::{read_below, write_below};
 use crate::lend::part;
+use crate::router::Router;
 use crate::sides::Sides;
-use bus::{Command, Span, Status, Target};
+use bus::{AccessError, Command, Span, Target, worse};
 
 // Whether a byte of the span lies past the last address.
 fn passes_the_end(span: Span<'_>) -> bool
@@ -29,89 +33,94 @@ fn beyond<'a>(span: Span<'a>, border: u32) -> Span<'a>
     }
 }
 
-// A span over the border is judged by both, each over its own part.
-fn judge_both<L: Target, R: Target>(
-    left: &L,
-    right: &R,
-    command: Command,
-    first: Span<'_>,
-    second: Span<'_>,
-) -> Status
-    ensures { result ≡ worse (judged (L.Target.map left.now) command first.entry.start first.entry.enabled.now) (judged (R.Target.map right.now) command second.entry.start second.entry.enabled.now) }
+// The parts of a span over the border, each as its target counts its addresses.
+fn halves<'a>(span: Span<'a>, at: usize, border: u32) -> (Span<'a>, Span<'a>)
+    requires { (0 < at) × (at < length span.enabled.now) × (span.start + at ≡ border) × (span.start + length span.enabled.now ≤ 2 ^ 32) }
+    ensures left { result.0.start ≡ span.entry.start }
+    ensures first { result.0.enabled.now ≡ cut 0 at span.entry.enabled.now }
+    ensures right { result.1.start ≡ span.entry.start + at - border }
+    ensures second { result.1.enabled.now ≡ cut at (length span.entry.enabled.now) span.entry.enabled.now }
 {
-    left.judge(command, first)
-        .worse(right.judge(command, second))
+    let second = part(span, at, span.enabled.len());
+    (part(span, 0, at), beyond(second, border))
 }
 
-// The status of a span, by the side or the sides on which it lies.
-pub(crate) fn judge_sides<L: Target, R: Target>(
-    left: &L,
-    right: &R,
-    border: u32,
-    command: Command,
-    span: Span<'_>,
-) -> Status
-    ensures { result ≡ judged (routed border (L.Target.map left.now) (R.Target.map right.now)) command span.entry.start span.entry.enabled.now }
-{
-    if passes_the_end(span) {
-        return Status::AddressError;
-    }
-    match Sides::of(span, border) {
-        Sides::Left => left.judge(command, span),
-        Sides::Right => right.judge(command, beyond(span, border)),
-        Sides::Both(at) => {
-            let second = beyond(part(span, at, span.enabled.len()), border);
-            judge_both(left, right, command, part(span, 0, at), second)
+impl<L: Target, R: Target> Router<L, R> {
+    // How a span is judged, by the side or the sides on which it lies.
+    pub(crate) fn judge_sides(&self, command: Command, span: Span<'_>) -> Result<(), AccessError>
+        ensures { status_of result ≡ judged (routed_by L.Target.map R.Target.map self.now) command span.entry.start span.entry.enabled.now }
+    {
+        if passes_the_end(span) {
+            return Err(AccessError::AbsentByte);
+        }
+        match Sides::of(span, self.border) {
+            Sides::Left => self.left.judge(command, span),
+            Sides::Right => self.right.judge(command, beyond(span, self.border)),
+            Sides::Both(at) => {
+                let (first, second) = halves(span, at, self.border);
+                worse(
+                    self.left.judge(command, first),
+                    self.right.judge(command, second),
+                )
+            }
         }
     }
-}
 
-// Reads a span that is judged 1: over the border the left part first.
-pub(crate) fn read_sides<L: Target, R: Target>(
-    left: &mut L,
-    right: &mut R,
-    border: u32,
-    span: Span<'_>,
-    buffer: &mut [u8],
-)
-    requires length { length buffer.old ≡ length span.enabled.now }
-    requires judged { judged (routed border (L.Target.map left.old) (R.Target.map right.old)) Read span.start span.enabled.now ≡ Okay }
-    ensures bytes { buffer.new ≡ filled (routed border (L.Target.map left.old) (R.Target.map right.old)) span.entry.start span.entry.enabled.now buffer.old }
-    ensures accesses { AskedOnce (OneRead L.Target.map L.Target.meter span.entry.enabled.now) (OneRead R.Target.map R.Target.meter span.entry.enabled.now) border span.entry.start (length span.entry.enabled.now) (sides_of border span.entry.start (length span.entry.enabled.now)) left.old left.new right.old right.new }
-    ensures left { L.Target.map left.new ≡ L.Target.map left.old }
-    ensures right { R.Target.map right.new ≡ R.Target.map right.old }
-{
-    let len = span.enabled.len();
-    match Sides::of(span, border) {
-        Sides::Left => left.read(span, buffer),
-        Sides::Right => right.read(beyond(span, border), buffer),
-        Sides::Both(at) => {
-            left.read(part(span, 0, at), &mut buffer[0..at]);
-            right.read(beyond(part(span, at, len), border), &mut buffer[at..len])
+    // What each access asks first, as `admit` asks it of the targets below.
+    pub(crate) fn admit_sides(
+        &self,
+        command: Command,
+        span: Span<'_>,
+        bytes: &[u8],
+    ) -> Result<(), AccessError>
+        ensures status { status_of result ≡ status_over (routed_by L.Target.map R.Target.map self.now) command span.entry.start span.entry.enabled.now bytes.now }
+        ensures sized { OnOk result (length bytes.now ≡ length span.entry.enabled.now) }
+        ensures judged { OnOk result (judged (routed_by L.Target.map R.Target.map self.now) command span.entry.start span.entry.enabled.now ≡ Okay) }
+    {
+        if bytes.len() != span.enabled.len() {
+            return Err(AccessError::WrongLength);
         }
-    };
-}
+        self.judge_sides(command, span)
+    }
 
-// Writes to a span that is judged 1: over the border the left part first.
-pub(crate) fn write_sides<L: Target, R: Target>(
-    left: &mut L,
-    right: &mut R,
-    border: u32,
-    span: Span<'_>,
-    bytes: &[u8],
-)
-    requires length { length bytes.now ≡ length span.enabled.now }
-    requires judged { judged (routed border (L.Target.map left.old) (R.Target.map right.old)) Write span.start span.enabled.now ≡ Okay }
-    ensures accesses { AskedOnce (OneWrite L.Target.map L.Target.meter span.entry.enabled.now bytes.now) (OneWrite R.Target.map R.Target.meter span.entry.enabled.now bytes.now) border span.entry.start (length span.entry.enabled.now) (sides_of border span.entry.start (length span.entry.enabled.now)) left.old left.new right.old right.new }
-    ensures map { routed border (L.Target.map left.new) (R.Target.map right.new) ≡ written span.entry.start span.entry.enabled.now bytes.now (routed border (L.Target.map left.old) (R.Target.map right.old)) }
-{
-    let len = span.enabled.len();
-    match Sides::of(span, border) {
-        Sides::Left => left.write(span, bytes),
-        Sides::Right => right.write(beyond(span, border), bytes),
-        Sides::Both(at) => {
-            left.write(part(span, 0, at), &bytes[0..at]);
-            right.write(beyond(part(span, at, len), border), &bytes[at..len])
+    // Reads a span that is judged 1: over the border the left part first.
+    pub(crate) fn read_sides(&mut self, span: Span<'_>, buffer: &mut [u8])
+        requires length { length buffer.old ≡ length span.enabled.now }
+        requires judged { judged (routed_by L.Target.map R.Target.map self.old) Read span.start span.enabled.now ≡ Okay }
+        ensures bytes { buffer.new ≡ filled (routed_by L.Target.map R.Target.map self.old) span.entry.start span.entry.enabled.now buffer.old }
+        ensures accesses { AskedOnce (OneRead L.Target.map L.Target.meter span.entry.enabled.now) (OneRead R.Target.map R.Target.meter span.entry.enabled.now) self.old.border span.entry.start (length span.entry.enabled.now) (sides_of self.old.border span.entry.start (length span.entry.enabled.now)) self.old.left self.new.left self.old.right self.new.right }
+        ensures map { routed_by L.Target.map R.Target.map self.new ≡ routed_by L.Target.map R.Target.map self.old }
+        ensures border { self.new.border ≡ self.old.border }
+        ensures meter { self.new.meter ≡ self.old.meter }
+    {
+        match Sides::of(span, self.border) {
+            Sides::Left => read_below(&mut self.left, span, buffer),
+            Sides::Right => read_below(&mut self.right, beyond(span, self.border), buffer),
+            Sides::Both(at) => {
+                let (first, second) = halves(span, at, self.border);
+                read_below(&mut self.left, first, &mut buffer[0..at]);
+                read_below(&mut self.right, second, &mut buffer[at..span.enabled.len()]);
+            }
         }
-    };
+    }
+
+    // Writes to a span that is judged 1: over the border the left part first.
+    pub(crate) fn write_sides(&mut self, span: Span<'_>, bytes: &[u8])
+        requires length { length bytes.now ≡ length span.enabled.now }
+        requires judged { judged (routed_by L.Target.map R.Target.map self.old) Write span.start span.enabled.now ≡ Okay }
+        ensures accesses { AskedOnce (OneWrite L.Target.map L.Target.meter span.entry.enabled.now bytes.now) (OneWrite R.Target.map R.Target.meter span.entry.enabled.now bytes.now) self.old.border span.entry.start (length span.entry.enabled.now) (sides_of self.old.border span.entry.start (length span.entry.enabled.now)) self.old.left self.new.left self.old.right self.new.right }
+        ensures map { routed_by L.Target.map R.Target.map self.new ≡ written span.entry.start span.entry.enabled.now bytes.now (routed_by L.Target.map R.Target.map self.old) }
+        ensures border { self.new.border ≡ self.old.border }
+        ensures meter { self.new.meter ≡ self.old.meter }
+    {
+        match Sides::of(span, self.border) {
+            Sides::Left => write_below(&mut self.left, span, bytes),
+            Sides::Right => write_below(&mut self.right, beyond(span, self.border), bytes),
+            Sides::Both(at) => {
+                let (first, second) = halves(span, at, self.border);
+                write_below(&mut self.left, first, &bytes[0..at]);
+                write_below(&mut self.right, second, &bytes[at..span.enabled.len()]);
+            }
+        }
+    }
 }

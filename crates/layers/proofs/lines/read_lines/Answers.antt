@@ -5,7 +5,7 @@ use Rattle.layers.specs.Access.{none, PieceRead}
 use Rattle.layers.specs.Cut.{cut_at}
 use Rattle.layers.specs.Lines.{Sound, held_ins, after_piece}
 use Rattle.layers.specs.Steps.{cut}
-use Rattle.layers.proofs.Accesses.{one_piece_more, all_reached}
+use Rattle.layers.proofs.Accesses.{one_more, piece_read, all_reached}
 use Rattle.layers.proofs.Lasting.{all_to_read, one_read, none_to_read, within_line}
 use Rattle.layers.proofs.Sofar.{none_counted, one_counted, all_counted, filled_part, all_read}
 use Rattle.layers.proofs.Spans.{lies_below, length_cut, part_judged}
@@ -59,10 +59,10 @@ loop-at-preserved g c =
           (c.read_piece.ensures.places ∙ (λ t. after_piece (same t) (start t / 16) (held_ins c.loop-at.lines))) ∙ c.loop-at.invariant.2,
       (λ sound. subst (λ x. Sound x c.read_piece.new.lines) same (c.read_piece.ensures.sound (subst (λ x. Sound x c.loop-at.lines) (sym same) (c.loop-at.invariant.3 sound)))),
       (λ sound.
-          filled_part a es i j lt within c.part.result.start c.part.result.enabled.now c.part.ensures.enabled m c.args.buffer.now c.loop-at.buffer c.read_piece.new.buffer c.requires.length (c.loop-at.invariant.4 sound)
+          filled_part m a es i j lt within c.args.buffer.now c.loop-at.buffer c.read_piece.new.buffer c.requires.length (c.loop-at.invariant.4 sound)
           (c.read_piece.ensures.bytes (subst (λ x. Sound x c.loop-at.lines) (sym same) (c.loop-at.invariant.3 sound)) ∙ (λ t. filled (same t) (start t) (c.part.ensures.enabled t) (cut i j c.loop-at.buffer)))),
-      one_piece_more g.T.Target.map g.T.Target.meter a es (λ k. cut_at a 16 k (length es)) i j c.piece_end-end.ensures.value c.part.result.start c.part.result.enabled.now start c.part.ensures.enabled c.args.lower.now c.loop-at.lower c.read_piece.new.lower (held_ins c.args.lines.now) (held_ins c.loop-at.lines) (held_ins c.read_piece.new.lines)
-          c.loop-at.invariant.5 c.read_piece.ensures.below c.read_piece.ensures.places,
+      one_more (PieceRead g.T.Target.map g.T.Target.meter a es) (λ k. cut_at a 16 k (length es)) i j (c.args.lower.now, held_ins c.args.lines.now) (c.loop-at.lower, held_ins c.loop-at.lines) (c.read_piece.new.lower, held_ins c.read_piece.new.lines) c.piece_end-end.ensures.value c.loop-at.invariant.5
+          (piece_read g.T.Target.map g.T.Target.meter a es i j c.loop-at.lower c.read_piece.new.lower c.part.result.start c.part.result.enabled.now start c.part.ensures.enabled (held_ins c.loop-at.lines) (held_ins c.read_piece.new.lines) c.read_piece.ensures.below c.read_piece.ensures.places),
     )
 
 pub returns : goal.returns

@@ -38,5 +38,5 @@ returns-else-hold g c =
       places = c.hold.ensures.places;
       sound = c.hold.ensures.sound;
       map = c.read_below.ensures.map ∙ c.hold.ensures.map;
-      below = asked_piece b s (OneRead g.T.Target.map g.T.Target.meter whole (a / 16 * 16) 0 16 x y) (OneRead g.T.Target.map g.T.Target.meter es a 0 (length es) x y) (y ≡ x) off (subst (λ u. OneRead g.T.Target.map g.T.Target.meter es a 0 (length es) u y) stays c.read_below.ensures.below);
+      below = asked_piece b s (OneRead g.T.Target.map g.T.Target.meter whole (a / 16 * 16) 0 16 x y) (OneRead g.T.Target.map g.T.Target.meter es a 0 (length es) x y) (y ≡ x) off (subst (λ u. OneRead g.T.Target.map g.T.Target.meter es a 0 (length es) u y) stays c.read_below.ensures.access);
     }

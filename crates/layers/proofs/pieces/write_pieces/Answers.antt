@@ -2,8 +2,8 @@ use Rattle.std.proofs.Common.{◌+◌, ◌^◌, ◌≤◌, [], length, sym, arit
 use Rattle.bus.specs.declared.kinds.Command.TheVariants.{Write}
 use Rattle.layers.specs.Access.{none, OneWrite}
 use Rattle.layers.specs.Cut.{cut_at}
-use Rattle.layers.proofs.Accesses.{one_write_more, all_reached}
-use Rattle.layers.proofs.Sofar.{none_counted, one_counted, all_counted, write_part, all_written}
+use Rattle.layers.proofs.Accesses.{one_more, part_write, all_reached}
+use Rattle.layers.proofs.Sofar.{none_counted, one_counted, all_counted, length_part, write_judged, write_part, all_written}
 use Rattle.layers.proofs.Spans.{lies_below, none_written}
 use Rattle.layers.proofs.pieces.write_pieces.Goals as goal
 
@@ -19,18 +19,41 @@ part-requires g c =
     let below : c.args.span.start + length c.args.span.enabled.now ≤ 2 ^ 32 = lies_below (g.T.Target.map c.args.lower.now) (g.met.T.Target.bounded c.args.lower.now) Write c.args.span.start c.args.span.enabled.now (omega arith) c.requires.judged in
     (c.piece_end-end.ensures.after, c.piece_end-end.ensures.within, omega (arith, c.piece_end-end.ensures.within))
 
-pub loop-at-preserved : goal.loop-at-preserved
-loop-at-preserved g c =
+pub write_below-requires-clause-length : goal.write_below-requires-clause-length
+write_below-requires-clause-length g c =
+    let m = g.T.Target.map c.args.lower.now in
     let a = c.args.span.start in
     let es = c.args.span.enabled.now in
     let i = c.loop-at.at in
-    let j = c.piece_end-end.result in (
-      one_counted c.args.width a (length es) i c.loop-at.count j c.requires.width.0 c.loop-at-test.true c.piece_end-end.ensures.value c.piece_end-end.ensures.after c.piece_end-end.ensures.within c.loop-at.invariant.0,
-      write_part a es i j c.piece_end-end.ensures.after c.piece_end-end.ensures.within c.part.result.start c.part.result.enabled.now c.part.ensures.enabled
-          (g.T.Target.map c.args.lower.now) c.args.bytes.now (g.T.Target.map c.loop-at.lower) (g.T.Target.meter c.loop-at.lower) c.write.result (g.T.Target.map c.write.new.self) (g.T.Target.meter c.write.new.self)
-          c.part.ensures.start c.requires.length c.requires.judged c.loop-at.invariant.1 c.write.ensures,
-      one_write_more g.T.Target.map g.T.Target.meter a es (λ k. cut_at a c.args.width k (length es)) i j c.piece_end-end.ensures.value c.part.result.start c.part.result.enabled.now c.part.ensures.start c.part.ensures.enabled c.args.lower.now c.loop-at.lower c.write.new.self
-          c.args.bytes.now c.write.result c.loop-at.invariant.2 c.write.ensures,
+    let j = c.piece_end-end.result in
+    let lt = c.piece_end-end.ensures.after in
+    let within = c.piece_end-end.ensures.within in
+    length_part m a es i j lt within c.part.result.start c.part.result.enabled.now c.part.ensures.start c.part.ensures.enabled (g.T.Target.map c.loop-at.lower) c.args.bytes.now c.requires.length
+
+pub write_below-requires-clause-judged : goal.write_below-requires-clause-judged
+write_below-requires-clause-judged g c =
+    let m = g.T.Target.map c.args.lower.now in
+    let a = c.args.span.start in
+    let es = c.args.span.enabled.now in
+    let i = c.loop-at.at in
+    let j = c.piece_end-end.result in
+    let lt = c.piece_end-end.ensures.after in
+    let within = c.piece_end-end.ensures.within in
+    write_judged m a es i j lt within c.part.result.start c.part.result.enabled.now c.part.ensures.start c.part.ensures.enabled (g.T.Target.map c.loop-at.lower) c.args.bytes.now c.loop-at.invariant.1 c.requires.judged
+
+pub loop-at-preserved : goal.loop-at-preserved
+loop-at-preserved g c =
+    let m = g.T.Target.map c.args.lower.now in
+    let a = c.args.span.start in
+    let es = c.args.span.enabled.now in
+    let i = c.loop-at.at in
+    let j = c.piece_end-end.result in
+    let lt = c.piece_end-end.ensures.after in
+    let within = c.piece_end-end.ensures.within in (
+      one_counted c.args.width a (length es) i c.loop-at.count j c.requires.width.0 c.loop-at-test.true c.piece_end-end.ensures.value lt within c.loop-at.invariant.0,
+      write_part m a es i j lt within c.part.result.start c.part.result.enabled.now c.part.ensures.start c.part.ensures.enabled (g.T.Target.map c.loop-at.lower) c.args.bytes.now (g.T.Target.map c.write_below.new.lower) c.requires.length c.loop-at.invariant.1 c.write_below.ensures.map,
+      one_more (λ u v. OneWrite g.T.Target.map g.T.Target.meter es c.args.bytes.now (a + u) u v) (λ k. cut_at a c.args.width k (length es)) i j c.args.lower.now c.loop-at.lower c.write_below.new.lower c.piece_end-end.ensures.value c.loop-at.invariant.2
+          (part_write g.T.Target.map g.T.Target.meter (a + i) es i j c.loop-at.lower c.write_below.new.lower c.part.result.start c.part.result.enabled.now c.part.ensures.start c.part.ensures.enabled c.args.bytes.now (length_part m a es i j lt within c.part.result.start c.part.result.enabled.now c.part.ensures.start c.part.ensures.enabled (g.T.Target.map c.loop-at.lower) c.args.bytes.now c.requires.length) c.write_below.ensures.access),
     )
 
 pub returns : goal.returns
