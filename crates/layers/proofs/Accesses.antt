@@ -1,9 +1,9 @@
 -- One access more below a layer.
-use Rattle.std.proofs.Common.{◌≡◌, ℕ, ◌+◌, ◌-◌, ◌*◌, ◌/◌, ◌≤◌, Bool, true, false, cond, List, length, take, Option, sym, ap, ◌∙◌, subst, arith}
+use Rattle.std.proofs.Common.{◌≡◌, ℕ, ◌+◌, ◌-◌, ◌*◌, ◌/◌, ◌≤◌, Bool, true, false, List, length, take, Option, sym, ap, ◌∙◌, subst, arith}
 use Rattle.std.proofs.lemmas.List.{take_all}
 use Rattle.bus.specs.Map.{AddressMap, judged}
 use Rattle.bus.specs.Numbers.{is_okay}
-use Rattle.bus.specs.Target.{ReadAs, WrittenAs, if_okay}
+use Rattle.bus.specs.Target.{ReadAs, WrittenAs}
 use Rattle.bus.specs.declared.kinds.Command.TheVariants.{Read}
 use Rattle.bus.specs.Answers.{Status}
 use Rattle.bus.specs.Answers.{Okay, AddressError, CommandError, GenericError}
@@ -43,33 +43,13 @@ module _ {X : Type 0} (map : X → AddressMap) (meter : X → ℕ) (a : ℕ) (es
       let all : cut 0 (length es₁) (cut i j bytes) ≡ cut i j bytes = cut_whole (cut i j bytes) (length es₁) (omega arith) in
       (write.0, subst (λ u. WrittenAs (map x) (meter x) u (cut i j es) (cut i j bytes) write.0 (map y) (meter y)) at (subst (λ u. WrittenAs (map x) (meter x) a₁ u (cut i j bytes) write.0 (map y) (meter y)) whole (subst (λ u. WrittenAs (map x) (meter x) a₁ (cut 0 (length es₁) es₁) u write.0 (map y) (meter y)) all write.1)))
 
--- What a piece asked below.
-pub asked_held : (b : Bool) (s : Status) (line piece stays : Type 0) → b ≡ true → stays → Asked b s line piece stays
-asked_held b s line piece stays e there = subst (λ (x : Bool). Asked x s line piece stays) (sym e) there
-
-pub asked_missed : (b : Bool) (s : Status) (line piece stays : Type 0) → b ≡ false → if_okay s line piece → Asked b s line piece stays
-asked_missed b s line piece stays e there = subst (λ (x : Bool). Asked x s line piece stays) (sym e) there
-
-pub asked_line : (b : Bool) (s : Status) (line piece piece' stays : Type 0) → cond b true (is_okay s) ≡ true → Asked b s line piece stays → Asked b s line piece' stays
-asked_line true s line piece piece' stays e asked = asked
-asked_line false Okay line piece piece' stays e asked = asked
-asked_line false AddressError line piece piece' stays e asked = let z : ◌≡◌ {A = ℕ} 0 1 = cc in absurd (omega arith)
-asked_line false CommandError line piece piece' stays e asked = let z : ◌≡◌ {A = ℕ} 0 1 = cc in absurd (omega arith)
-asked_line false GenericError line piece piece' stays e asked = let z : ◌≡◌ {A = ℕ} 0 1 = cc in absurd (omega arith)
-
-pub asked_piece : (b : Bool) (s : Status) (line piece stays : Type 0) → cond b true (is_okay s) ≡ false → piece → Asked b s line piece stays
-asked_piece true s line piece stays e there = let z : ◌≡◌ {A = ℕ} 0 1 = cc in absurd (omega arith)
-asked_piece false Okay line piece stays e there = let z : ◌≡◌ {A = ℕ} 0 1 = cc in absurd (omega arith)
-asked_piece false AddressError line piece stays e there = there
-asked_piece false CommandError line piece stays e there = there
-asked_piece false GenericError line piece stays e there = there
-
-pub asked_nothing : (b : Bool) (s : Status) (line stays : Type 0) → cond b true (is_okay s) ≡ false → Asked b s line stays stays → stays
-asked_nothing true s line stays e asked = asked
-asked_nothing false Okay line stays e asked = let z : ◌≡◌ {A = ℕ} 0 1 = cc in absurd (omega arith)
-asked_nothing false AddressError line stays e asked = asked
-asked_nothing false CommandError line stays e asked = asked
-asked_nothing false GenericError line stays e asked = asked
+-- What a piece asked below, whose line is not held and cannot be.
+pub asked_below : (b : Bool) (s : Status) (line line' piece stays stays' : Type 0) → b ≡ false → is_okay s ≡ false → (stays → piece) → Asked b s line stays stays → Asked b s line' piece stays'
+asked_below true s line line' piece stays stays' missed off f asked = let z : ◌≡◌ {A = ℕ} 0 1 = cc in absurd (omega arith)
+asked_below false Okay line line' piece stays stays' missed off f asked = let z : ◌≡◌ {A = ℕ} 0 1 = cc in absurd (omega arith)
+asked_below false AddressError line line' piece stays stays' missed off f asked = f asked
+asked_below false CommandError line line' piece stays stays' missed off f asked = f asked
+asked_below false GenericError line line' piece stays stays' missed off f asked = f asked
 
 pub asked_map : (b : Bool) (s : Status) (line piece piece' stays : Type 0) → (piece → piece') → Asked b s line piece stays → Asked b s line piece' stays
 asked_map true s line piece piece' stays f asked = asked

@@ -10,7 +10,7 @@ use Rattle.bus.proofs.Congruence.{congruence}
 use Rattle.bus.proofs.Distance.{distance}
 use Rattle.bus.proofs.Stability.{stability}
 use Rattle.layers.specs.Cut.{cut_at}
-use Rattle.layers.specs.Lines.{whole, no_line, empty_line, kept_line, line_in, Sound, held_in, held_ins, meets, unless_met, line_unless_met, after_piece, after_pieces, held_after_read, held_after_write}
+use Rattle.layers.specs.Lines.{whole, line_in, Sound, held_in, held_ins, meets, unless_met, line_unless_met, after_piece, after_pieces, held_after_read, held_after_write}
 use Rattle.layers.specs.declared.line.Line.{Line}
 use Rattle.layers.proofs.Counting.{left, all_left, none_left, one_less, next_block}
 
@@ -40,14 +40,11 @@ pub within_line : (a at n j : ℕ) → at < j → j ≡ cut_at a 16 at n → (a 
 within_line a at n j lt to = omega arith
 
 -- After a write to n bytes from a.
-dropped : (a n : ℕ) (line : Line) → held_in (line_unless_met a n line) ≡ unless_met a n (held_in line)
-dropped a n line =
-    elim line.held as (λ b. held_in (cond (meets a n line.number) empty_line (record { held = b; number = line.number; bytes = line.bytes })) ≡ unless_met a n (cond b (Some line.number) None)) [
-      | true ↦ elim (meets a n line.number) as (λ b. held_in (cond b empty_line (record { held = true; number = line.number; bytes = line.bytes })) ≡ cond b None (Some line.number)) [ true ↦ refl | false ↦ refl ]
-      | false ↦ elim (meets a n line.number) as (λ b. held_in (cond b empty_line (record { held = false; number = line.number; bytes = line.bytes })) ≡ None) [ true ↦ refl | false ↦ refl ]
-    ]
+dropped : (a n : ℕ) (place : Option Line) → held_in (line_unless_met a n place) ≡ unless_met a n (held_in place)
+dropped a n None = refl
+dropped a n (Some line) = elim (meets a n line.number) as (λ b. held_in (cond b None (Some line)) ≡ cond b None (Some line.number)) [ true ↦ refl | false ↦ refl ]
 
-pub places_dropped : (a n : ℕ) (lines : List Line) → held_ins (map (line_unless_met a n) lines) ≡ held_after_write a n (held_ins lines)
+pub places_dropped : (a n : ℕ) (lines : List (Option Line)) → held_ins (map (line_unless_met a n) lines) ≡ held_after_write a n (held_ins lines)
 places_dropped a n [] = refl
 places_dropped a n (x ∷ xs) = (λ t. dropped a n x t ∷ places_dropped a n xs t)
 
@@ -61,21 +58,23 @@ unchanged m a es vs k e =
     let status = stability.judging m a es vs Read (k * 16) whole in
     let agree : Agree (written a es vs m) m (k * 16) (k * 16) 16 = λ i lt. distance.writing m a es vs (k * 16 + i) (apart a (length es) k i lt e) in
     let bytes = congruence.filling (written a es vs m) m (k * 16) (k * 16) whole (replicate 16 0) agree in
-    (λ t. if_okay (status t) (Some (kept_line k (bytes t))) None)
+    (λ t. if_okay (status t) (Some (record { number = k; bytes = bytes t })) None)
 
-still_held : (a n : ℕ) (line : Line) → (line_unless_met a n line).held ≡ true → (meets a n line.number ≡ false) × (line_unless_met a n line ≡ line)
-still_held a n line held =
-    (elim (meets a n line.number) as (λ b. (cond b empty_line line).held ≡ true → (b ≡ false) × (cond b empty_line line ≡ line))
-    [ true ↦ (λ h. let z : ◌≡◌ {A = ℕ} 0 1 = cc in absurd (omega arith)) | false ↦ (λ h. (refl, refl)) ]) held
+still_held : (a n : ℕ) (place : Option Line) (line : Line) → line_unless_met a n place ≡ Some line → (meets a n line.number ≡ false) × (place ≡ Some line)
+still_held a n None line e = let z : ◌≡◌ {A = ℕ} 0 1 = cc in absurd (omega arith)
+still_held a n (Some x) line e =
+    (elim (meets a n x.number) as (λ b. (meets a n x.number ≡ b) → cond b None (Some x) ≡ Some line → (meets a n line.number ≡ false) × (Some x ≡ Some line)) [
+      | true ↦ (λ met e. let z : ◌≡◌ {A = ℕ} 0 1 = cc in absurd (omega arith))
+      | false ↦ (λ met e. let same : x ≡ line = cc in (sym (ap (λ (l : Line). meets a n l.number) same) ∙ met, e))
+    ]) refl e
 
-pub sound_dropped : (m m' : AddressMap) (a : ℕ) (es : List Bool) (vs : List ℕ) (lines lines' : List Line) → m' ≡ written a es vs m → lines' ≡ map (line_unless_met a (length es)) lines → Sound m lines → Sound m' lines'
+pub sound_dropped : (m m' : AddressMap) (a : ℕ) (es : List Bool) (vs : List ℕ) (lines lines' : List (Option Line)) → m' ≡ written a es vs m → lines' ≡ map (line_unless_met a (length es)) lines → Sound m lines → Sound m' lines'
 sound_dropped m m' a es vs lines lines' new are sound =
     subst (λ x. Sound x lines') (sym new) (subst (Sound (written a es vs m)) (sym are) (
       length-map lines (line_unless_met a (length es)) ∙ sound.0,
-      (λ i lt held.
-          let here : get_or (map (line_unless_met a (length es)) lines) i no_line ≡ line_unless_met a (length es) (get_or lines i no_line) = get_or-map (line_unless_met a (length es)) lines i no_line no_line (omega (arith, sound.0)) in
-          let stays = still_held a (length es) (get_or lines i no_line) (sym (ap (λ (l : Line). l.held) here) ∙ held) in
-          let same : get_or (map (line_unless_met a (length es)) lines) i no_line ≡ get_or lines i no_line = here ∙ stays.1 in
-          let was = sound.1 i lt (sym (ap (λ (l : Line). l.held) same) ∙ held) in
-          (ap (λ (l : Line). l.number % 8) same ∙ was.0, ap (λ (l : Line). line_in (written a es vs m) l.number) same ∙ unchanged m a es vs (get_or lines i no_line).number stays.0 ∙ was.1 ∙ sym (ap Some same))),
+      (λ i line lt held.
+          let here : get_or (map (line_unless_met a (length es)) lines) i None ≡ line_unless_met a (length es) (get_or lines i None) = get_or-map (line_unless_met a (length es)) lines i None None (omega (arith, sound.0)) in
+          let stays = still_held a (length es) (get_or lines i None) line (sym here ∙ held) in
+          let was = sound.1 i line lt stays.1 in
+          (was.0, unchanged m a es vs line.number stays.0 ∙ was.1)),
     ))

@@ -1,5 +1,5 @@
 -- The lines that a cache holds: line k has the 16 addresses from 16 k on, and only place k mod 8 may hold it.
-use Rattle.std.specs.Prelude.{◌≡◌, ℕ, zero, suc, ◌+◌, ◌*◌, ◌/◌, ◌%◌, ◌<◌, Bool, true, false, cond, ◌&&◌, List, [], map, length, replicate, Some, None, Option, ◌==◌, nat_lt, slice_index_or, slice_set}
+use Rattle.std.specs.Prelude.{◌≡◌, ℕ, zero, suc, ◌+◌, ◌*◌, ◌/◌, ◌%◌, ◌<◌, Bool, true, false, cond, ◌&&◌, List, map, length, replicate, Some, None, Option, ◌==◌, nat_lt, slice_index_or, slice_set}
 use Rattle.bus.specs.Map.{AddressMap, judged, filled}
 use Rattle.bus.specs.Target.{if_okay}
 use Rattle.bus.specs.declared.kinds.Command.TheVariants.{Read}
@@ -10,33 +10,24 @@ use Rattle.layers.specs.declared.line.Line.{Line}
 abbrev pub whole : List Bool
 whole = replicate 16 true
 
-abbrev pub empty_line : Line
-empty_line = record { held = false; number = 0; bytes = replicate 16 0 }
-
--- What stands past the last place: nothing.
-abbrev pub no_line : Line
-no_line = record { held = false; number = 0; bytes = [] }
-
-abbrev pub kept_line : ℕ → List ℕ → Line
-kept_line k bytes = record { held = true; number = k; bytes = bytes }
-
 -- Line k as the map has it.
 abbrev pub line_of : AddressMap → ℕ → Line
-line_of m k = kept_line k (filled m (k * 16) whole (replicate 16 0))
+line_of m k = record { number = k; bytes = filled m (k * 16) whole (replicate 16 0) }
 
 -- Line k, if a READ of the whole of it is judged 1.
 abbrev pub line_in : AddressMap → ℕ → Option Line
 line_in m k = if_okay (judged m Read (k * 16) whole) (Some (line_of m k)) None
 
 -- Each held line stands in its place, may be read as a whole, and equals the map.
-abbrev pub Sound : AddressMap → List Line → Type 0
-Sound m lines = (length lines ≡ 8) × ((i : ℕ) → i < 8 → (slice_index_or lines i no_line).held ≡ true → ((slice_index_or lines i no_line).number % 8 ≡ i) × (line_in m (slice_index_or lines i no_line).number ≡ Some (slice_index_or lines i no_line)))
+abbrev pub Sound : AddressMap → List (Option Line) → Type 0
+Sound m lines = (length lines ≡ 8) × ((i : ℕ) (line : Line) → i < 8 → slice_index_or lines i None ≡ Some line → (line.number % 8 ≡ i) × (line_in m line.number ≡ Some line))
 
 -- Which line a place holds, if it holds one.
-abbrev pub held_in : Line → Option ℕ
-held_in line = cond line.held (Some line.number) None
+abbrev pub held_in : Option Line → Option ℕ
+held_in None = None
+held_in (Some line) = Some line.number
 
-abbrev pub held_ins : List Line → List (Option ℕ)
+abbrev pub held_ins : List (Option Line) → List (Option ℕ)
 held_ins lines = map held_in lines
 
 abbrev pub is_line : ℕ → Option ℕ → Bool
@@ -67,8 +58,9 @@ abbrev pub unless_met : (a n : ℕ) → Option ℕ → Option ℕ
 unless_met a n None = None
 unless_met a n (Some k) = cond (meets a n k) None (Some k)
 
-abbrev pub line_unless_met : (a n : ℕ) → Line → Line
-line_unless_met a n line = cond (meets a n line.number) empty_line line
+abbrev pub line_unless_met : (a n : ℕ) → Option Line → Option Line
+line_unless_met a n None = None
+line_unless_met a n (Some line) = cond (meets a n line.number) None (Some line)
 
 -- The lines held after a write to n bytes from a.
 abbrev pub held_after_write : (a n : ℕ) → List (Option ℕ) → List (Option ℕ)

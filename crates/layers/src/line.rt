@@ -1,15 +1,14 @@
-ghost use Rattle.std.specs.Prelude.{◌≡◌, ℕ, ◌+◌, ◌%◌, ◌<◌, ◌≤◌, true, false, length, slice_index, slice_index_or};
-ghost use Rattle.layers.specs.Lines.{empty_line, kept_line, held_in, is_line, meets, line_unless_met};
+ghost use Rattle.std.specs.Prelude.{◌≡◌, ℕ, ◌+◌, ◌%◌, ◌<◌, ◌≤◌, false, length, slice_index, slice_index_or};
+ghost use Rattle.layers.specs.Lines.{meets, line_unless_met};
 ghost use Rattle.layers.specs.Steps.{chosen};
 
 use bus::Span;
 
-// What a place of a cache has: the 16 bytes of a line, if the line is held.
+// A line of a cache: the 16 bytes from address 16 times its number on.
 #[derive(Clone, Copy)]
 pub(crate) struct Line {
-    held: bool,
     pub(crate) number: u32,
-    bytes: [u8; 16],
+    pub(crate) bytes: [u8; 16],
 }
 
 // A disabled place keeps what it holds.
@@ -19,52 +18,24 @@ fn choose(enabled: bool, new: u8, old: u8) -> u8
     if enabled { new } else { old }
 }
 
+// What a place holds after a write to the span.
+pub(crate) fn unless_met(place: Option<Line>, span: Span<'_>) -> Option<Line>
+    ensures { result ≡ line_unless_met span.entry.start (length span.entry.enabled.now) place }
+{
+    match place {
+        Some(line) if line.meets(span) => None,
+        _ => place,
+    }
+}
+
 impl Line {
-    pub(crate) fn empty() -> Line
-        ensures { result ≡ empty_line }
-    {
-        Line {
-            held: false,
-            number: 0,
-            bytes: [0; 16],
-        }
-    }
-
-    pub(crate) fn kept(number: u32, bytes: [u8; 16]) -> Line
-        ensures { result ≡ kept_line number bytes }
-    {
-        Line {
-            held: true,
-            number,
-            bytes,
-        }
-    }
-
-    // Whether the line of this number is held here.
-    pub(crate) fn is(self, number: u32) -> bool
-        ensures { result ≡ is_line number (held_in self) }
-    {
-        self.held && self.number == number
-    }
-
     // Whether a byte of the span is one of the line's, enabled or not.
-    fn meets(self, span: Span<'_>) -> bool
-        ensures { result ≡ meets span.entry.start (length span.entry.enabled.now) self.number }
+    fn meets(&self, span: Span<'_>) -> bool
+        ensures { result ≡ meets span.entry.start (length span.entry.enabled.now) self.now.number }
     {
         let first = self.number as usize * 16;
         let start = span.start as usize;
         start < first + 16 && first < start + span.enabled.len()
-    }
-
-    // The line after a write to the span.
-    pub(crate) fn unless_met(self, span: Span<'_>) -> Line
-        ensures { result ≡ line_unless_met span.entry.start (length span.entry.enabled.now) self }
-    {
-        if self.meets(span) {
-            Line::empty()
-        } else {
-            self
-        }
     }
 
     // Takes the span, which lies within the line, into the buffer.
