@@ -1,27 +1,17 @@
 ghost use Rattle.std.specs.Prelude.{◌≡◌, ◌≤◌, min, max};
 
 use crate::accesses::Access;
-use bus::{Command, Outcome, Span, Target};
-use std::io;
+use bus::{AccessError, Command, Span, Target, status_number};
+use std::{array, io};
 
 // The marks of 64 bytes, by a pattern of four.
 fn marks_of(pattern: [bool; 4]) -> [bool; 64] {
-    let mut marks = [false; 64];
-    for i in 0..64 {
-        marks[i] = pattern[i % 4];
-    }
-    marks
+    array::from_fn(|i| pattern[i % 4])
 }
 
 // Data that counts up from a first byte.
 fn data_from(first: u8) -> [u8; 64] {
-    let mut bytes = [0; 64];
-    let mut next = first;
-    for i in 0..64 {
-        bytes[i] = next;
-        next = next.wrapping_add(1);
-    }
-    bytes
+    array::from_fn(|i| first.wrapping_add(i as u8))
 }
 
 // How many bytes a span can have.
@@ -29,17 +19,20 @@ fn within_span(count: usize) -> usize
     ensures value { result ≡ min (max count 1) 64 }
     ensures range { (1 ≤ result) × (result ≤ 64) }
 {
-    count.max(1).min(64)
+    count.clamp(1, 64)
 }
 
-fn run<T: Target>(target: &mut T, command: Command, span: Span<'_>, buffer: &mut [u8]) -> Outcome {
+// What an access costs, or why it is not served. What is only judged costs nothing.
+fn run<T: Target>(
+    target: &mut T,
+    command: Command,
+    span: Span<'_>,
+    buffer: &mut [u8],
+) -> Result<u64, AccessError> {
     match command {
         Command::Read => target.read(span, buffer),
         Command::Write => target.write(span, buffer),
-        Command::Ignore => Outcome {
-            status: target.judge(command, span),
-            delay: 0,
-        },
+        Command::Ignore => target.judge(command, span).map(|()| 0),
     }
 }
 
@@ -60,8 +53,9 @@ fn show_run<T: Target>(
     buffer: &mut [u8],
 ) -> io::Result<()> {
     let (word, start, count) = (letter(command), span.start, span.enabled.len());
-    let outcome = run(target, command, span, buffer);
-    let (status, delay, meter) = (outcome.status.number(), outcome.delay, target.meter());
+    let answer = run(target, command, span, buffer);
+    let (status, delay) = (status_number(answer.map(|_| ())), answer.unwrap_or(0));
+    let meter = target.meter();
     print!(rt; "{word} {start:x} {count}: {status} {delay} {meter} ")?;
     for byte in buffer.iter() {
         let byte = *byte;
