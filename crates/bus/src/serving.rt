@@ -55,8 +55,9 @@ fn read_beats<T: Target>(target: &mut T, payload: &Payload, buffer: &mut [u8]) -
     delay
 }
 
-// Writes a payload that is judged 1, beat by beat, each with its own part of the data. One function for both would be no
-// shorter: it would need a type for a buffer that is lent and one for data that is shown, and a clause for each.
+// Writes a payload that is judged 1, beat by beat, each with its own part of the data, and counted like those of a READ.
+// One function for both would be no shorter: it would need a type for a buffer that is lent and one for data that is
+// shown, and a clause for each.
 fn write_beats<T: Target>(target: &mut T, payload: &Payload, bytes: &[u8]) -> u64
     requires length { length bytes.now ≡ payload.now.length }
     requires judged { judged (T.map target.old) Write payload.now.address (marks_from (access payload.now).enables 0 (min payload.now.width payload.now.length)) ≡ Okay }
@@ -86,13 +87,16 @@ fn judge_payload<T: Target>(target: &T, payload: &Payload) -> Result<(), AccessE
     target.judge(payload.command, span)
 }
 
-// Judges a payload once, and with status 1 moves its bytes beat by beat.
-fn judge_and_move<T: Target>(
+// Serves a payload, and answers the delay: it is judged once, and with status 1 its beats move their bytes in
+// ascending order. An IGNORE is only judged. What is judged, filled and written obeys the laws.
+#[tactic(auto, using(crate::proofs::Laws::laws))]
+pub fn serve<T: Target>(
     target: &mut T,
     payload: &Payload,
     buffer: &mut [u8],
 ) -> Result<u64, AccessError>
-    ensures { Serves (T.map target.old) (T.meter target.old) (access payload.now) buffer.old (outcome_of result) buffer.new (T.map target.new) (T.meter target.new) }
+    ensures laws { Laws }
+    ensures serves { Serves (T.map target.old) (T.meter target.old) (access payload.now) buffer.old (outcome_of result) buffer.new (T.map target.new) (T.meter target.new) }
 {
     if buffer.len() != payload.length {
         return Err(AccessError::WrongLength);
@@ -103,17 +107,4 @@ fn judge_and_move<T: Target>(
         Command::Write => write_beats(target, payload, buffer),
         Command::Ignore => 0,
     })
-}
-
-// Serves a payload, and answers the delay: it is judged once, and with status 1 its beats move their bytes in
-// ascending order. An IGNORE is only judged. What is judged, filled and written obeys the laws.
-pub fn serve<T: Target>(
-    target: &mut T,
-    payload: &Payload,
-    buffer: &mut [u8],
-) -> Result<u64, AccessError>
-    ensures laws { Laws }
-    ensures serves { Serves (T.map target.old) (T.meter target.old) (access payload.now) buffer.old (outcome_of result) buffer.new (T.map target.new) (T.meter target.new) }
-{
-    judge_and_move(target, payload, buffer)
 }
