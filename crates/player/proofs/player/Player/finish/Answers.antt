@@ -7,14 +7,6 @@ use Rattle.player.specs.Start.{state_of}
 use Rattle.player.proofs.Stream.{finished, finished_line}
 use Rattle.player.proofs.player.Player.finish.Goals as goal
 
-pub returns-then-not-is_waiting : goal.returns-then-not-is_waiting
-returns-then-not-is_waiting c =
-    record {
-      answered = search rules;
-      silent = λ e. (refl, refl);
-      played = λ before said h. finished before said (held c.args.self.now.line) c.args.self.now.number (state_of c.args.self.now.platform) h (not-false (none_held (held c.args.self.now.line)) (sym c.if-not-is_waiting.ensures));
-    }
-
 pub returns : goal.returns
 returns c =
     record {

@@ -15,12 +15,6 @@ slice_bounds-end_line-end c =
     let within : c.in-Some.end < length c.args.bytes.now = ends.within in
     search rules
 
-pub end_line-requires : goal.end_line-requires
-end_line-requires c =
-    let ends = end_found c.args.bytes.now c.in-Some.end (sym c.in-Some.ensures) in
-    let count : length (take (c.in-Some.end - 0) c.args.bytes.now) ≡ c.in-Some.end - 0 = length-take-le (c.in-Some.end - 0) c.args.bytes.now (omega (arith, ends.within)) in
-    omega (arith, ends.within, count)
-
 pub returns-in-Some : goal.returns-in-Some
 returns-in-Some c =
     let ends = end_found c.args.bytes.now c.in-Some.end (sym c.in-Some.ensures) in
