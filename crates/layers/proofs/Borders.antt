@@ -100,9 +100,6 @@ module _ (b : ℕ) (l r : AddressMap) (a : ℕ) (es : List Bool) (at : ℕ) (the
   second_long : length (cut at (length es) es) ≡ length es - at
   second_long = length_cut es at (length es) (omega arith) (omega arith)
 
-  second_at : a + at - b ≡ 0
-  second_at = omega arith
-
   pub judged_both : (c : Command) → worse (judged l c a (cut 0 at es)) (judged r c (a + at - b) (cut at (length es) es)) ≡ judged (routed b l r) c a es
   judged_both c =
       let long = first_long in

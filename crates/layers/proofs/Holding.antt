@@ -7,8 +7,7 @@ use Rattle.bus.specs.Map.{AddressMap, judged, filled, value_at}
 use Rattle.bus.specs.Numbers.{is_okay}
 use Rattle.bus.specs.Target.{if_okay}
 use Rattle.bus.specs.declared.kinds.Command.TheVariants.{Read}
-use Rattle.bus.specs.Answers.{Status}
-use Rattle.bus.specs.Answers.{Okay, AddressError, CommandError, GenericError}
+use Rattle.bus.specs.Answers.{Status, Okay}
 use Rattle.bus.proofs.Distance.{distance}
 use Rattle.layers.specs.Lines.{whole, line_of, line_in, Sound, held_in, held_ins, is_line, holds, after_piece}
 use Rattle.layers.specs.Steps.{chosen}
@@ -22,28 +21,16 @@ held_at (x ∷ xs) (suc i) = held_at xs i
 
 -- A line is in a map, or it is not.
 is_in : (s : Status) (line found : Line) → Some line ≡ if_okay s (Some found) None → (s ≡ Okay) × (line ≡ found)
-is_in Okay line found e = (refl, cc)
-is_in AddressError line found e = let z : ◌≡◌ {A = ℕ} 0 1 = cc in absurd (omega arith)
-is_in CommandError line found e = let z : ◌≡◌ {A = ℕ} 0 1 = cc in absurd (omega arith)
-is_in GenericError line found e = let z : ◌≡◌ {A = ℕ} 0 1 = cc in absurd (omega arith)
+is_in s line found e = grind arith
 
 by_status : (s : Status) (found : Line) → None ≡ if_okay s (Some found) None → is_okay s ≡ false
-by_status Okay found e = let z : ◌≡◌ {A = ℕ} 0 1 = cc in absurd (omega arith)
-by_status AddressError found e = refl
-by_status CommandError found e = refl
-by_status GenericError found e = refl
+by_status s found e = grind arith
 
 not_in : {A : Type 0} (s : Status) (found : Line) (x y : A) → None ≡ if_okay s (Some found) None → if_okay s x y ≡ y
-not_in Okay found x y e = let z : ◌≡◌ {A = ℕ} 0 1 = cc in absurd (omega arith)
-not_in AddressError found x y e = refl
-not_in CommandError found x y e = refl
-not_in GenericError found x y e = refl
+not_in s found x y e = grind arith
 
 the_same : (x y : Line) → Some x ≡ Some y → x ≡ y
 the_same x y e = cc
-
-pub is_readable : (m : AddressMap) (k : ℕ) (line : Line) → Some line ≡ line_in m k → judged m Read (k * 16) whole ≡ Okay
-is_readable m k line found = (is_in (judged m Read (k * 16) whole) line (line_of m k) found).0
 
 pub not_readable : (m : AddressMap) (k : ℕ) → None ≡ line_in m k → is_okay (judged m Read (k * 16) whole) ≡ false
 not_readable m k none = by_status (judged m Read (k * 16) whole) (line_of m k) none
@@ -54,8 +41,7 @@ filtered f None r did says = did
 filtered f (Some x) r did says = did.2 ∙ ap (λ b. then_some b x) (says x did.0 did.1)
 
 some_held : (k : ℕ) (place : Option Line) → is_some (elim place [ None ↦ None | Some x ↦ then_some (eqb x.number k) x ]) ≡ is_line k (held_in place)
-some_held k None = refl
-some_held k (Some x) = elim (eqb x.number k) as (λ b. is_some (then_some b x) ≡ b) [ true ↦ refl | false ↦ refl ]
+some_held k place = grind arith
 
 -- The place p of line k.
 module _ (m : AddressMap) (lines : List (Option Line)) (k p : ℕ) (at : p ≡ k % 8) where
@@ -67,16 +53,10 @@ module _ (m : AddressMap) (lines : List (Option Line)) (k p : ℕ) (at : p ≡ k
     pub hit : holds (held_ins lines) k ≡ true
     hit = holds_by (Some line.number) (sym (ap held_in here)) ∙ eq-eqb line.number k number
 
-    pub places_hit : held_ins lines ≡ after_piece m k (held_ins lines)
-    places_hit = sym (cond-true _ _ _ hit)
-
     pub line_hit : Sound m lines → Some line ≡ line_in m k
     line_hit sound = sym (sound.1 p line (let lt : k % 8 < 8 = mod-lt k (omega arith) in omega arith) here).1 ∙ ap (line_in m) number
 
   module _ (missed : holds (held_ins lines) k ≡ false) where
-    pub places_missed : None ≡ line_in m k → held_ins lines ≡ after_piece m k (held_ins lines)
-    places_missed none = sym (cond-false _ _ _ missed ∙ not_in (judged m Read (k * 16) whole) (line_of m k) (set (held_ins lines) (k % 8) (Some k)) (held_ins lines) none)
-
     pub places_kept : (line : Line) → Some line ≡ line_in m k → held_ins (set lines p (Some line)) ≡ after_piece m k (held_ins lines)
     places_kept line found =
         let the = is_in (judged m Read (k * 16) whole) line (line_of m k) found in

@@ -1,7 +1,7 @@
 -- Which lines are held while a span is read line by line, and after a write.
-use Rattle.std.proofs.Common.{◌≡◌, ℕ, suc, ◌+◌, ◌-◌, ◌*◌, ◌/◌, ◌%◌, ◌<◌, ◌≤◌, Bool, true, false, cond, ltb, ◌⊎◌, List, [], ◌∷◌, map, length, get_or, replicate, Some, None, Option, sym, refl, ap, ◌∙◌, subst, inl, inr, ⊎_elim, arith}
+use Rattle.std.proofs.Common.{◌≡◌, ℕ, suc, ◌+◌, ◌*◌, ◌/◌, ◌<◌, ◌≤◌, Bool, false, ◌⊎◌, List, [], ◌∷◌, map, length, get_or, replicate, Some, None, Option, sym, refl, ap, ◌∙◌, subst, ⊎_elim, arith}
 use Rattle.std.proofs.lemmas.List.{length-map, get_or-map}
-use Rattle.std.proofs.lemmas.Bool.{cases_lt, and_cases, ltb-false}
+use Rattle.std.proofs.lemmas.Bool.{cases_lt}
 use Rattle.bus.specs.Map.{AddressMap, written}
 use Rattle.bus.specs.Laws.{Agree}
 use Rattle.bus.specs.Target.{if_okay}
@@ -18,14 +18,12 @@ use Rattle.layers.proofs.Counting.{left, all_left, none_left, one_less, next_blo
 abbrev pub held_after_rest : AddressMap → (a at n : ℕ) → List (Option ℕ) → List (Option ℕ)
 held_after_rest m a at n places = after_pieces m ((a + at) / 16) (left 16 a at n) places
 
-pub all_to_read : (m : AddressMap) (a n : ℕ) (places : List (Option ℕ)) → 1 ≤ n → held_after_rest m a 0 n places ≡ held_after_read m a n places
-all_to_read m a n places some = let e : a + 0 ≡ a = omega arith in let f = all_left 16 a n some in (λ t. after_pieces m (e t / 16) (f t) places)
+pub all_to_read : (m : AddressMap) (a at n : ℕ) (places : List (Option ℕ)) → at ≡ 0 → 1 ≤ n → held_after_rest m a at n places ≡ held_after_read m a n places
+all_to_read m a at n places zero some = let e : a + at ≡ a = omega arith in let f = ap (λ k. left 16 a k n) zero ∙ all_left 16 a n some in (λ t. after_pieces m (e t / 16) (f t) places)
 
-pub none_to_read : (m : AddressMap) (a at n : ℕ) (places : List (Option ℕ)) → n ≤ at → held_after_rest m a at n places ≡ places
-none_to_read m a at n places le = ap (λ c. after_pieces m ((a + at) / 16) c places) (none_left 16 a at n le)
-
-pub one_read : (m : AddressMap) (a at n j : ℕ) (places places' : List (Option ℕ)) → at < n → j ≡ cut_at a 16 at n → places' ≡ after_piece m ((a + at) / 16) places → held_after_rest m a j n places' ≡ held_after_rest m a at n places
-one_read m a at n j places places' lt to new =
+pub one_read : (m : AddressMap) (a at n j : ℕ) (places places' : List (Option ℕ)) → at < j → j ≤ n → j ≡ cut_at a 16 at n → places' ≡ after_piece m ((a + at) / 16) places → held_after_rest m a j n places' ≡ held_after_rest m a at n places
+one_read m a at n j places places' after within to new =
+    let lt : at < n = omega arith in
     let less = one_less 16 a at n j (omega arith) lt to in
     let count : left 16 a at n ≡ suc (left 16 a j n) = omega arith in
     let step : after_pieces m ((a + at) / 16 + 1) (left 16 a j n) (after_piece m ((a + at) / 16) places) ≡ held_after_rest m a at n places = sym (ap (λ c. after_pieces m ((a + at) / 16) c places) count) in
@@ -36,13 +34,9 @@ one_read m a at n j places places' lt to new =
     (cases_lt j n) in
     same ∙ ap (after_pieces m ((a + at) / 16 + 1) (left 16 a j n)) new ∙ step
 
-pub within_line : (a at n j : ℕ) → at < j → j ≡ cut_at a 16 at n → (a + at) % 16 + (j - at) ≤ 16
-within_line a at n j lt to = omega arith
-
 -- After a write to n bytes from a.
 dropped : (a n : ℕ) (place : Option Line) → held_in (line_unless_met a n place) ≡ unless_met a n (held_in place)
-dropped a n None = refl
-dropped a n (Some line) = elim (meets a n line.number) as (λ b. held_in (cond b None (Some line)) ≡ cond b None (Some line.number)) [ true ↦ refl | false ↦ refl ]
+dropped a n place = grind arith
 
 pub places_dropped : (a n : ℕ) (lines : List (Option Line)) → held_ins (map (line_unless_met a n) lines) ≡ held_after_write a n (held_ins lines)
 places_dropped a n [] = refl
@@ -50,8 +44,7 @@ places_dropped a n (x ∷ xs) = (λ t. dropped a n x t ∷ places_dropped a n xs
 
 -- A line that has no byte of the span stays as it is.
 apart : (a n k i : ℕ) → i < 16 → meets a n k ≡ false → (k * 16 + i < a) ⊎ (a + n ≤ k * 16 + i)
-apart a n k i lt e =
-    ⊎_elim (λ f. let le = ltb-false a (k * 16 + 16) f in inl (omega arith)) (λ f. let le = ltb-false (k * 16) (a + n) f in inr (omega arith)) (and_cases (ltb a (k * 16 + 16)) (ltb (k * 16) (a + n)) e)
+apart a n k i lt e = grind arith
 
 unchanged : (m : AddressMap) (a : ℕ) (es : List Bool) (vs : List ℕ) (k : ℕ) → meets a (length es) k ≡ false → line_in (written a es vs m) k ≡ line_in m k
 unchanged m a es vs k e =
@@ -61,12 +54,7 @@ unchanged m a es vs k e =
     (λ t. if_okay (status t) (Some (record { number = k; bytes = bytes t })) None)
 
 still_held : (a n : ℕ) (place : Option Line) (line : Line) → line_unless_met a n place ≡ Some line → (meets a n line.number ≡ false) × (place ≡ Some line)
-still_held a n None line e = let z : ◌≡◌ {A = ℕ} 0 1 = cc in absurd (omega arith)
-still_held a n (Some x) line e =
-    (elim (meets a n x.number) as (λ b. (meets a n x.number ≡ b) → cond b None (Some x) ≡ Some line → (meets a n line.number ≡ false) × (Some x ≡ Some line)) [
-      | true ↦ (λ met e. let z : ◌≡◌ {A = ℕ} 0 1 = cc in absurd (omega arith))
-      | false ↦ (λ met e. let same : x ≡ line = cc in (sym (ap (λ (l : Line). meets a n l.number) same) ∙ met, e))
-    ]) refl e
+still_held a n place line e = grind arith
 
 pub sound_dropped : (m m' : AddressMap) (a : ℕ) (es : List Bool) (vs : List ℕ) (lines lines' : List (Option Line)) → m' ≡ written a es vs m → lines' ≡ map (line_unless_met a (length es)) lines → Sound m lines → Sound m' lines'
 sound_dropped m m' a es vs lines lines' new are sound =

@@ -1,6 +1,5 @@
 pub mod Spans
 pub mod Counting
-pub mod Served
 pub mod Sofar
 pub mod Borders
 pub mod Crossing

@@ -1,12 +1,11 @@
 -- A part of a span is judged, filled and written as the span is.
-use Rattle.std.proofs.Common.{◌≡◌, ℕ, ◌+◌, ◌-◌, ◌^◌, ◌≤◌, Bool, List, [], ◌++◌, length, take, drop, None, sym, refl, ap, ◌∙◌, inl, inr, ⊎_elim, arith, take-append-drop}
+use Rattle.std.proofs.Common.{◌≡◌, ℕ, ◌+◌, ◌-◌, ◌^◌, ◌≤◌, Bool, List, [], ◌++◌, length, take, drop, None, sym, ap, ◌∙◌, inl, inr, ⊎_elim, arith, take-append-drop}
 use Rattle.std.proofs.lemmas.List.{length-take-le, length-drop, take_at, take_rest, drop_at}
 use Rattle.std.proofs.lemmas.Bool.{cases_lt}
 use Rattle.bus.specs.Map.{AddressMap, judged, filled, written}
 use Rattle.bus.specs.Numbers.{worse}
 use Rattle.bus.specs.declared.kinds.Command.{Command}
-use Rattle.bus.specs.Answers.{Status}
-use Rattle.bus.specs.Answers.{Okay, AddressError, CommandError, GenericError}
+use Rattle.bus.specs.Answers.{Status, Okay, AddressError}
 use Rattle.bus.proofs.Cutting.{cutting}
 use Rattle.bus.proofs.Distance.{distance}
 use Rattle.bus.proofs.Parts.{take_both}
@@ -15,13 +14,7 @@ use Rattle.bus.proofs.Absence.{absent}
 
 -- A whole is judged 1 only where both parts are.
 pub both_okay : (s t : Status) → worse s t ≡ Okay → (s ≡ Okay) × (t ≡ Okay)
-both_okay Okay t e = (refl, e)
-both_okay AddressError t e = let z : ◌≡◌ {A = ℕ} 0 1 = cc in absurd (omega arith)
-both_okay CommandError Okay e = let z : ◌≡◌ {A = ℕ} 0 1 = cc in absurd (omega arith)
-both_okay CommandError AddressError e = let z : ◌≡◌ {A = ℕ} 0 1 = cc in absurd (omega arith)
-both_okay CommandError CommandError e = let z : ◌≡◌ {A = ℕ} 0 1 = cc in absurd (omega arith)
-both_okay CommandError GenericError e = let z : ◌≡◌ {A = ℕ} 0 1 = cc in absurd (omega arith)
-both_okay GenericError t e = let z : ◌≡◌ {A = ℕ} 0 1 = cc in absurd (omega arith)
+both_okay s t e = grind arith
 
 -- A span that is judged 1 lies below 2^32.
 pub lies_below : (m : AddressMap) → ((x : ℕ) → 2 ^ 32 ≤ x → m x ≡ None) → (c : Command) (a : ℕ) (es : List Bool) → 1 ≤ length es → judged m c a es ≡ Okay → a + length es ≤ 2 ^ 32
@@ -84,5 +77,5 @@ module _ (m : AddressMap) (a : ℕ) (es : List Bool) (i j : ℕ) (le : i ≤ j) 
       ∙ ap (λ x. written (a + x) (cut i j es) (cut i j vs) (written a (take i es) (take i vs) m)) front
 
 -- Nothing is written where there is no byte.
-pub none_written : (m : AddressMap) (a : ℕ) (vs : List ℕ) → written a [] vs m ≡ m
-none_written m a vs t x = distance.writing m a [] vs x (⊎_elim (λ lt. inl lt) (λ le. inr (omega arith)) (cases_lt x a)) t
+pub nothing_written : (m : AddressMap) (a : ℕ) (vs : List ℕ) → written a [] vs m ≡ m
+nothing_written m a vs t x = distance.writing m a [] vs x (⊎_elim (λ lt. inl lt) (λ le. inr (omega arith)) (cases_lt x a)) t

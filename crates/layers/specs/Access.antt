@@ -3,10 +3,12 @@ use Rattle.std.specs.Prelude.{◌≡◌, ℕ, ◌+◌, ◌-◌, ◌*◌, ◌/◌
 use Rattle.bus.specs.Map.{AddressMap, judged}
 use Rattle.bus.specs.Target.{ReadAs, WrittenAs, if_okay}
 use Rattle.bus.specs.declared.kinds.Command.TheVariants.{Read}
-use Rattle.bus.specs.Answers.{Status}
-use Rattle.bus.specs.Answers.{Outcome}
+use Rattle.bus.specs.Answers.{Outcome, Status}
+use Rattle.layers.specs.Cut.{cut_at}
 use Rattle.layers.specs.Lines.{whole, holds, after_piece}
+use Rattle.layers.specs.Route.{sides_of}
 use Rattle.layers.specs.Steps.{cut}
+use Rattle.layers.specs.declared.router.Router.{Router}
 use Rattle.layers.specs.declared.sides.Sides.{Sides}
 use Rattle.layers.specs.declared.sides.Sides.TheVariants.{Left, Right, Both}
 
@@ -15,6 +17,10 @@ use Rattle.layers.specs.declared.sides.Sides.TheVariants.{Left, Right, Both}
 pub data Reached {X : Type 0} (step : (i j : ℕ) → X → X → Type 0) (next : ℕ → ℕ) : ℕ → X → X → Type 0 where
   none : {x : X} → Reached step next 0 x x
   more : {i : ℕ} {x y z : X} → Reached step next i x y → step i (next i) y z → Reached step next (next i) x z
+
+-- One step for each piece of the n bytes from a.
+abbrev pub InPieces : {X : Type 0} → ((i j : ℕ) → X → X → Type 0) → (width a n : ℕ) → X → X → Type 0
+InPieces step width a n x y = Reached step (λ i. cut_at a width i n) n x y
 
 -- One read, from an address on, of the bytes from place i to place j of a span, into whatever buffer.
 abbrev pub OneRead : {X : Type 0} → (X → AddressMap) → (X → ℕ) → List Bool → ℕ → (i j : ℕ) → X → X → Type 0
@@ -29,6 +35,10 @@ abbrev pub AskedOnce : {X Y : Type 0} → (ℕ → (i j : ℕ) → X → X → T
 AskedOnce left right border a n Left x x' y y' = left a 0 n x x' × (y' ≡ y)
 AskedOnce left right border a n Right x x' y y' = (x' ≡ x) × right (a - border) 0 n y y'
 AskedOnce left right border a n (Both at) x x' y y' = left a 0 at x x' × right (a + at - border) at n y y'
+
+-- What n bytes from a ask of the sides of a router.
+abbrev pub AskedSides : {L R : Type 0} → (ℕ → (i j : ℕ) → L → L → Type 0) → (ℕ → (i j : ℕ) → R → R → Type 0) → (a n : ℕ) → Router L R → Router L R → Type 0
+AskedSides left right a n s s' = AskedOnce left right s.border a n (sides_of s.border a n) s.left s'.left s.right s'.right
 
 -- What a piece asks below: nothing where its line is held, else for the line where that may be read as a whole, else for
 -- itself.

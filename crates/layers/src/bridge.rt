@@ -1,15 +1,18 @@
 ghost use Rattle.std.specs.Prelude.{◌≡◌, ◌+◌, ◌≤◌, length};
-ghost use Rattle.bus.specs.Map.{judged};
-ghost use Rattle.bus.specs.Target.{ReadAs, WrittenAs, if_okay};
-ghost use Rattle.layers.specs.Access.{Reached, OneRead, OneWrite};
-ghost use Rattle.layers.specs.Cut.{cut_at, pieces, width_of};
-ghost use Rattle.bus.specs.Answers.{outcome_of, status_of};
-ghost use Rattle.bus.specs.Delay.{limited, growth};
-ghost use Rattle.layers.specs.Delay.{Charged};
 ghost use Rattle.std.proofs.Common.{rules, arith};
+ghost use Rattle.bus.specs.Answers.{Okay, outcome_of, status_of};
+ghost use Rattle.bus.specs.Delay.{limited, growth};
+ghost use Rattle.bus.specs.Map.{judged, filled, written};
+ghost use Rattle.bus.specs.Target.{ReadAs, WrittenAs, if_okay};
+ghost use Rattle.bus.specs.declared.kinds.Command.TheVariants.{Read, Write};
+ghost use Rattle.layers.specs.Access.{InPieces, OneRead, OneWrite};
+ghost use Rattle.layers.specs.Cut.{pieces, width_of};
+ghost use Rattle.layers.specs.Delay.{Charged};
 
+use crate::below::{read_below, write_below};
 use crate::growth::growth_since;
-use crate::pieces::{read_pieces, write_pieces};
+use crate::lend::part;
+use crate::pieces::{Pieces, count_pieces};
 use bus::{AccessError, Command, Meter, Span, Target, admit};
 
 // Hands each span down in pieces that pass no multiple of the width.
@@ -48,6 +51,38 @@ impl<T: Target> Bridge<T> {
             meter: Meter::new(charge),
         }
     }
+
+    // Reads a span that is judged 1, one piece after another.
+    #[tactic(auto, using(crate::proofs::Sofar::walking))]
+    fn read_pieces(&mut self, span: Span<'_>, buffer: &mut [u8])
+        requires length { length buffer.old ≡ length span.enabled.now }
+        requires judged { judged (T.Target.map self.old.lower) Read span.start span.enabled.now ≡ Okay }
+        ensures bytes { buffer.new ≡ filled (T.Target.map self.old.lower) span.entry.start span.entry.enabled.now buffer.old }
+        ensures map { T.Target.map self.new.lower ≡ T.Target.map self.old.lower }
+        ensures accesses { InPieces (λ i j. OneRead T.Target.map T.Target.meter span.entry.enabled.now (span.entry.start + i) i j) self.old.width span.entry.start (length span.entry.enabled.now) self.old.lower self.new.lower }
+        ensures width { self.new.width ≡ self.old.width }
+        ensures meter { self.new.meter ≡ self.old.meter }
+    {
+        for (from, to) in Pieces::of(span, self.width) {
+            read_below(&mut self.lower, part(span, from, to), &mut buffer[from..to]);
+        }
+    }
+
+    // Writes to a span that is judged 1, one piece after another.
+    // A read changes the buffer and a write the map, so one function for both would be longer than the two.
+    #[tactic(auto, using(crate::proofs::Sofar::walking))]
+    fn write_pieces(&mut self, span: Span<'_>, bytes: &[u8])
+        requires length { length bytes.now ≡ length span.enabled.now }
+        requires judged { judged (T.Target.map self.old.lower) Write span.start span.enabled.now ≡ Okay }
+        ensures map { T.Target.map self.new.lower ≡ written span.entry.start span.entry.enabled.now bytes.now (T.Target.map self.old.lower) }
+        ensures accesses { InPieces (λ i j. OneWrite T.Target.map T.Target.meter span.entry.enabled.now bytes.now (span.entry.start + i) i j) self.old.width span.entry.start (length span.entry.enabled.now) self.old.lower self.new.lower }
+        ensures width { self.new.width ≡ self.old.width }
+        ensures meter { self.new.meter ≡ self.old.meter }
+    {
+        for (from, to) in Pieces::of(span, self.width) {
+            write_below(&mut self.lower, part(span, from, to), &bytes[from..to]);
+        }
+    }
 }
 
 impl<T: Target> Target for Bridge<T> {
@@ -68,11 +103,12 @@ impl<T: Target> Target for Bridge<T> {
         ensures answer { ReadAs (T.Target.map self.old.lower) self.old.meter.spent span.entry.start span.entry.enabled.now buffer.old (outcome_of result) buffer.new (T.Target.map self.new.lower) self.new.meter.spent }
         ensures charge { Charged self.old.meter.rate self.new.meter.rate (pieces self.old.width span.entry.start (length span.entry.enabled.now)) (growth (T.Target.meter self.old.lower) (T.Target.meter self.new.lower)) (outcome_of result) }
         ensures width { self.new.width ≡ self.old.width }
-        ensures below { if_okay (status_of result) (Reached (λ i j. OneRead T.Target.map T.Target.meter span.entry.enabled.now (span.entry.start + i) i j) (λ i. cut_at span.entry.start self.old.width i (length span.entry.enabled.now)) (length span.entry.enabled.now) self.old.lower self.new.lower) (self.new.lower ≡ self.old.lower) }
+        ensures below { if_okay (status_of result) (InPieces (λ i j. OneRead T.Target.map T.Target.meter span.entry.enabled.now (span.entry.start + i) i j) self.old.width span.entry.start (length span.entry.enabled.now) self.old.lower self.new.lower) (self.new.lower ≡ self.old.lower) }
     {
         admit(&self.lower, Command::Read, span, buffer)?;
         let before = self.lower.meter();
-        let count = read_pieces(&mut self.lower, self.width, span, buffer);
+        self.read_pieces(span, buffer);
+        let count = count_pieces(span, self.width);
         Ok(self.meter.settle(count, growth_since(&self.lower, before)))
     }
 
@@ -80,11 +116,12 @@ impl<T: Target> Target for Bridge<T> {
         ensures answer { WrittenAs (T.Target.map self.old.lower) self.old.meter.spent span.entry.start span.entry.enabled.now «data».now (outcome_of result) (T.Target.map self.new.lower) self.new.meter.spent }
         ensures charge { Charged self.old.meter.rate self.new.meter.rate (pieces self.old.width span.entry.start (length span.entry.enabled.now)) (growth (T.Target.meter self.old.lower) (T.Target.meter self.new.lower)) (outcome_of result) }
         ensures width { self.new.width ≡ self.old.width }
-        ensures below { if_okay (status_of result) (Reached (λ i j. OneWrite T.Target.map T.Target.meter span.entry.enabled.now «data».now (span.entry.start + i) i j) (λ i. cut_at span.entry.start self.old.width i (length span.entry.enabled.now)) (length span.entry.enabled.now) self.old.lower self.new.lower) (self.new.lower ≡ self.old.lower) }
+        ensures below { if_okay (status_of result) (InPieces (λ i j. OneWrite T.Target.map T.Target.meter span.entry.enabled.now «data».now (span.entry.start + i) i j) self.old.width span.entry.start (length span.entry.enabled.now) self.old.lower self.new.lower) (self.new.lower ≡ self.old.lower) }
     {
         admit(&self.lower, Command::Write, span, data)?;
         let before = self.lower.meter();
-        let count = write_pieces(&mut self.lower, self.width, span, data);
+        self.write_pieces(span, data);
+        let count = count_pieces(span, self.width);
         Ok(self.meter.settle(count, growth_since(&self.lower, before)))
     }
 

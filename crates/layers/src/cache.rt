@@ -4,13 +4,14 @@ ghost use Rattle.bus.specs.Answers.{outcome_of, status_of};
 ghost use Rattle.bus.specs.Delay.{limited, growth};
 ghost use Rattle.bus.specs.Map.{judged};
 ghost use Rattle.bus.specs.Target.{ReadAs, WrittenAs, if_okay};
-ghost use Rattle.layers.specs.Access.{OneWrite, PieceRead, Reached};
-ghost use Rattle.layers.specs.Cut.{cut_at, pieces};
+ghost use Rattle.layers.specs.Access.{InPieces, OneWrite, PieceRead};
+ghost use Rattle.layers.specs.Cut.{pieces};
 ghost use Rattle.layers.specs.Delay.{Charged};
 ghost use Rattle.layers.specs.Lines.{Sound, held_ins, held_after_read, held_after_write};
 
 use crate::growth::growth_since;
 use crate::line::Line;
+use crate::pieces::count_pieces;
 use bus::{AccessError, Command, Meter, Span, Target, admit};
 
 // Keeps 8 lines of 16 bytes that were read below, each in its place. A write goes through to the lower target.
@@ -56,11 +57,12 @@ impl<T: Target> Target for Cache<T> {
         ensures answer { ReadAs (T.Target.map self.old.lower) self.old.meter.spent span.entry.start span.entry.enabled.now buffer.old (outcome_of result) buffer.new (T.Target.map self.new.lower) self.new.meter.spent }
         ensures lines { held_ins self.new.lines ≡ if_okay (status_of result) (held_after_read (T.Target.map self.old.lower) span.entry.start (length span.entry.enabled.now) (held_ins self.old.lines)) (held_ins self.old.lines) }
         ensures charge { Charged self.old.meter.rate self.new.meter.rate (pieces 16 span.entry.start (length span.entry.enabled.now)) (growth (T.Target.meter self.old.lower) (T.Target.meter self.new.lower)) (outcome_of result) }
-        ensures below { if_okay (status_of result) (Reached (PieceRead T.Target.map T.Target.meter span.entry.start span.entry.enabled.now) (λ i. cut_at span.entry.start 16 i (length span.entry.enabled.now)) (length span.entry.enabled.now) (self.old.lower, held_ins self.old.lines) (self.new.lower, held_ins self.new.lines)) (self.new.lower ≡ self.old.lower) }
+        ensures below { if_okay (status_of result) (InPieces (PieceRead T.Target.map T.Target.meter span.entry.start span.entry.enabled.now) 16 span.entry.start (length span.entry.enabled.now) (self.old.lower, held_ins self.old.lines) (self.new.lower, held_ins self.new.lines)) (self.new.lower ≡ self.old.lower) }
     {
         admit(&self.lower, Command::Read, span, buffer)?;
         let before = self.lower.meter();
-        let count = self.read_lines(span, buffer);
+        self.read_lines(span, buffer);
+        let count = count_pieces(span, 16);
         Ok(self.meter.settle(count, growth_since(&self.lower, before)))
     }
 

@@ -11,13 +11,6 @@ pub(crate) struct Line {
     pub(crate) bytes: [u8; 16],
 }
 
-// A disabled place keeps what it holds.
-fn choose(enabled: bool, new: u8, old: u8) -> u8
-    ensures { result ≡ chosen enabled new old }
-{
-    if enabled { new } else { old }
-}
-
 // What a place holds after a write to the span.
 pub(crate) fn unless_met(place: Option<Line>, span: Span<'_>) -> Option<Line>
     ensures { result ≡ line_unless_met span.entry.start (length span.entry.enabled.now) place }
@@ -45,8 +38,11 @@ impl Line {
         ensures { (i : ℕ) → i < length buffer.old → slice_index buffer.new i ≡ chosen (slice_index_or span.entry.enabled.now i false) (slice_index self.now.bytes (span.entry.start % 16 + i)) (slice_index buffer.old i) }
     {
         let first = (span.start % 16) as usize;
+        // by index: of a zipped `iter_mut` only the length is known after the loop
         for (i, b) in buffer.iter_mut().enumerate() {
-            *b = choose(span.enabled[i], self.bytes[first + i], *b);
+            if span.enabled[i] {
+                *b = self.bytes[first + i];
+            }
         }
     }
 }

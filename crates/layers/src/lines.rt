@@ -3,14 +3,14 @@ ghost use Rattle.bus.specs.Answers.{Okay};
 ghost use Rattle.bus.specs.Map.{judged, filled, written};
 ghost use Rattle.bus.specs.Target.{if_okay};
 ghost use Rattle.bus.specs.declared.kinds.Command.TheVariants.{Read, Write};
-ghost use Rattle.layers.specs.Access.{Asked, OneRead, OneWrite, PieceRead, Reached};
-ghost use Rattle.layers.specs.Cut.{cut_at, pieces};
+ghost use Rattle.layers.specs.Access.{Asked, InPieces, OneRead, OneWrite, PieceRead};
 ghost use Rattle.layers.specs.Lines.{whole, line_in, held_ins, holds, after_piece, held_after_read, held_after_write, line_unless_met};
 
 use crate::below::{read_below, write_below};
 use crate::cache::Cache;
-use crate::lend::{part, piece_end};
+use crate::lend::part;
 use crate::line::{Line, unless_met};
+use crate::pieces::Pieces;
 use bus::{Command, Span, Target};
 
 // Drops each line that has a byte of the span.
@@ -77,26 +77,20 @@ impl<T: Target> Cache<T> {
         }
     }
 
-    // Reads a span that is judged 1, one line after another, and answers how many pieces it has.
-    pub(crate) fn read_lines(&mut self, span: Span<'_>, buffer: &mut [u8]) -> u64
+    // Reads a span that is judged 1, one line after another.
+    #[tactic(auto, using(crate::proofs::Sofar::walking))]
+    pub(crate) fn read_lines(&mut self, span: Span<'_>, buffer: &mut [u8])
         requires length { length buffer.old ≡ length span.enabled.now }
         requires judged { judged (T.Target.map self.old.lower) Read span.start span.enabled.now ≡ Okay }
         ensures bytes { buffer.new ≡ filled (T.Target.map self.old.lower) span.entry.start span.entry.enabled.now buffer.old }
         ensures places { held_ins self.new.lines ≡ held_after_read (T.Target.map self.old.lower) span.entry.start (length span.entry.enabled.now) (held_ins self.old.lines) }
         ensures map { T.Target.map self.new.lower ≡ T.Target.map self.old.lower }
         ensures meter { self.new.meter ≡ self.old.meter }
-        ensures accesses { Reached (PieceRead T.Target.map T.Target.meter span.entry.start span.entry.enabled.now) (λ i. cut_at span.entry.start 16 i (length span.entry.enabled.now)) (length span.entry.enabled.now) (self.old.lower, held_ins self.old.lines) (self.new.lower, held_ins self.new.lines) }
-        ensures count { result ≡ pieces 16 span.entry.start (length span.entry.enabled.now) }
+        ensures accesses { InPieces (PieceRead T.Target.map T.Target.meter span.entry.start span.entry.enabled.now) 16 span.entry.start (length span.entry.enabled.now) (self.old.lower, held_ins self.old.lines) (self.new.lower, held_ins self.new.lines) }
     {
-        let mut count = 0;
-        let mut at = 0;
-        while at < span.enabled.len() {
-            let end = piece_end(span, 16, at);
-            self.read_piece(part(span, at, end), &mut buffer[at..end]);
-            count += 1;
-            at = end;
+        for (from, to) in Pieces::of(span, 16) {
+            self.read_piece(part(span, from, to), &mut buffer[from..to]);
         }
-        count
     }
 
     // Writes to a span that is judged 1, and drops each line that has a byte of it.

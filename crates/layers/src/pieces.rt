@@ -1,63 +1,71 @@
-ghost use Rattle.std.specs.Prelude.{◌≡◌, ◌+◌, ◌<◌, ◌≤◌, length};
-ghost use Rattle.bus.specs.Map.{judged, filled, written};
-ghost use Rattle.bus.specs.declared.kinds.Command.TheVariants.{Read, Write};
-ghost use Rattle.bus.specs.Answers.{Okay};
-ghost use Rattle.layers.specs.Access.{Reached, OneRead, OneWrite};
+ghost use Rattle.std.specs.Prelude.{◌≡◌, ◌-◌, ◌<◌, ◌≤◌, length, MatchOption};
+ghost use Rattle.std.specs.Iterator.{at_most};
 ghost use Rattle.layers.specs.Cut.{cut_at, pieces};
 
-use crate::below::{read_below, write_below};
-use crate::lend::{part, piece_end};
-use bus::{Span, Target};
+use bus::Span;
 
-// Reads a span that is judged 1, one piece after another, and answers how many pieces it has.
-pub(crate) fn read_pieces<T: Target>(
-    lower: &mut T,
+// The pieces of a span, each by its first place and the place after its last. None passes a multiple of the width.
+#[derive(Drop)]
+pub(crate) struct Pieces {
+    start: u32,
+    len: usize,
     width: usize,
-    span: Span<'_>,
-    buffer: &mut [u8],
-) -> u64
-    requires width { (1 ≤ width) × (width ≤ 16) }
-    requires length { length buffer.old ≡ length span.enabled.now }
-    requires judged { judged (T.map lower.old) Read span.start span.enabled.now ≡ Okay }
-    ensures bytes { buffer.new ≡ filled (T.map lower.old) span.entry.start span.entry.enabled.now buffer.old }
-    ensures map { T.map lower.new ≡ T.map lower.old }
-    ensures accesses { Reached (λ i j. OneRead T.Target.map T.Target.meter span.entry.enabled.now (span.entry.start + i) i j) (λ i. cut_at span.entry.start width i (length span.entry.enabled.now)) (length span.entry.enabled.now) lower.old lower.new }
-    ensures count { result ≡ pieces width span.entry.start (length span.entry.enabled.now) }
-    ensures few { result ≤ 64 }
-{
-    let mut count = 0;
-    let mut at = 0;
-    while at < span.enabled.len() {
-        let end = piece_end(span, width, at);
-        read_below(lower, part(span, at, end), &mut buffer[at..end]);
-        count += 1;
-        at = end;
-    }
-    count
+    at: usize,
+    ghost ranges: { (1 ≤ width) × (width ≤ 16) × (len ≤ 64) × (at ≤ len) },
 }
 
-// Writes to a span that is judged 1, one piece after another, and answers how many pieces it has.
-pub(crate) fn write_pieces<T: Target>(
-    lower: &mut T,
-    width: usize,
-    span: Span<'_>,
-    bytes: &[u8],
-) -> u64
-    requires width { (1 ≤ width) × (width ≤ 16) }
-    requires length { length bytes.now ≡ length span.enabled.now }
-    requires judged { judged (T.map lower.old) Write span.start span.enabled.now ≡ Okay }
-    ensures map { T.map lower.new ≡ written span.entry.start span.entry.enabled.now bytes.now (T.map lower.old) }
-    ensures accesses { Reached (λ i j. OneWrite T.Target.map T.Target.meter span.entry.enabled.now bytes.now (span.entry.start + i) i j) (λ i. cut_at span.entry.start width i (length span.entry.enabled.now)) (length span.entry.enabled.now) lower.old lower.new }
-    ensures count { result ≡ pieces width span.entry.start (length span.entry.enabled.now) }
-    ensures few { result ≤ 64 }
-{
-    let mut count = 0;
-    let mut at = 0;
-    while at < span.enabled.len() {
-        let end = piece_end(span, width, at);
-        write_below(lower, part(span, at, end), &bytes[at..end]);
-        count += 1;
-        at = end;
+impl Pieces {
+    pub(crate) fn of(span: Span<'_>, width: usize) -> Pieces
+        requires { (1 ≤ width) × (width ≤ 16) }
+        ensures start { result.start ≡ span.entry.start }
+        ensures len { result.len ≡ length span.entry.enabled.now }
+        ensures width { result.width ≡ width }
+        ensures at { result.at ≡ 0 }
+    {
+        Pieces {
+            start: span.start,
+            len: span.enabled.len(),
+            width,
+            at: 0,
+        }
     }
-    count
+
+    // Where the piece ends that begins at place `at`.
+    fn end(&self) -> usize
+        requires { self.now.at < self.now.len }
+        ensures value { result ≡ cut_at self.now.start self.now.width self.now.at self.now.len }
+        ensures after { self.now.at < result }
+        ensures within { result ≤ self.now.len }
+    {
+        let start = self.start as usize;
+        let next = ((start + self.at) / self.width + 1) * self.width - start;
+        next.min(self.len)
+    }
+}
+
+impl Iterator for Pieces {
+    type Item = (usize, usize);
+
+    ghost next_gives = { λ s r t. (t.start ≡ s.start) × (t.len ≡ s.len) × (t.width ≡ s.width) × MatchOption r ((s.len ≤ s.at) × (t.at ≡ s.at)) (λ p. (s.at < s.len) × (p.0 ≡ s.at) × (p.1 ≡ cut_at s.start s.width s.at s.len) × (s.at < p.1) × (p.1 ≤ s.len) × (t.at ≡ p.1)) };
+
+    ghost remaining = { λ s. at_most (s.len - s.at) };
+
+    fn next(&mut self) -> Option<(usize, usize)> {
+        if self.at >= self.len {
+            return None;
+        }
+        let from = self.at;
+        self.at = self.end();
+        Some((from, self.at))
+    }
+}
+
+// How many pieces the span has.
+pub(crate) fn count_pieces(span: Span<'_>, width: usize) -> u64
+    requires { 1 ≤ width }
+    ensures { result ≡ pieces width span.entry.start (length span.entry.enabled.now) }
+{
+    let first = span.start as usize;
+    let last = first + span.enabled.len() - 1;
+    (last / width - first / width + 1) as u64
 }

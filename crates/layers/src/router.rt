@@ -1,12 +1,12 @@
 ghost use Rattle.std.specs.Prelude.{◌≡◌, ◌+◌, ◌-◌, length};
-ghost use Rattle.bus.specs.Map.{judged};
-ghost use Rattle.bus.specs.Target.{ReadAs, WrittenAs, if_okay};
-ghost use Rattle.layers.specs.Access.{AskedOnce, OneRead, OneWrite};
+ghost use Rattle.std.proofs.Common.{rules};
 ghost use Rattle.bus.specs.Answers.{outcome_of, status_of};
 ghost use Rattle.bus.specs.Delay.{limited, growth};
+ghost use Rattle.bus.specs.Map.{judged};
+ghost use Rattle.bus.specs.Target.{ReadAs, WrittenAs, if_okay};
+ghost use Rattle.layers.specs.Access.{AskedSides, OneRead, OneWrite};
 ghost use Rattle.layers.specs.Delay.{Charged};
 ghost use Rattle.layers.specs.Route.{routed, routed_by, sides_of, parts_of};
-ghost use Rattle.std.proofs.Common.{rules};
 
 use crate::growth::growth_since;
 use crate::sides::Sides;
@@ -57,7 +57,7 @@ impl<L: Target, R: Target> Target for Router<L, R> {
         ensures answer { ReadAs (routed_by L.Target.map R.Target.map self.old) self.old.meter.spent span.entry.start span.entry.enabled.now buffer.old (outcome_of result) buffer.new (routed_by L.Target.map R.Target.map self.new) self.new.meter.spent }
         ensures charge { Charged self.old.meter.rate self.new.meter.rate (parts_of (sides_of self.old.border span.entry.start (length span.entry.enabled.now))) (growth (L.Target.meter self.old.left) (L.Target.meter self.new.left) + growth (R.Target.meter self.old.right) (R.Target.meter self.new.right)) (outcome_of result) }
         ensures border { self.new.border ≡ self.old.border }
-        ensures below { if_okay (status_of result) (AskedOnce (OneRead L.Target.map L.Target.meter span.entry.enabled.now) (OneRead R.Target.map R.Target.meter span.entry.enabled.now) self.old.border span.entry.start (length span.entry.enabled.now) (sides_of self.old.border span.entry.start (length span.entry.enabled.now)) self.old.left self.new.left self.old.right self.new.right) ((self.new.left ≡ self.old.left) × (self.new.right ≡ self.old.right)) }
+        ensures below { if_okay (status_of result) (AskedSides (OneRead L.Target.map L.Target.meter span.entry.enabled.now) (OneRead R.Target.map R.Target.meter span.entry.enabled.now) span.entry.start (length span.entry.enabled.now) self.old self.new) ((self.new.left ≡ self.old.left) × (self.new.right ≡ self.old.right)) }
     {
         self.admit_sides(Command::Read, span, buffer)?;
         let (left, right) = (self.left.meter(), self.right.meter());
@@ -72,7 +72,7 @@ impl<L: Target, R: Target> Target for Router<L, R> {
         ensures answer { WrittenAs (routed_by L.Target.map R.Target.map self.old) self.old.meter.spent span.entry.start span.entry.enabled.now «data».now (outcome_of result) (routed_by L.Target.map R.Target.map self.new) self.new.meter.spent }
         ensures charge { Charged self.old.meter.rate self.new.meter.rate (parts_of (sides_of self.old.border span.entry.start (length span.entry.enabled.now))) (growth (L.Target.meter self.old.left) (L.Target.meter self.new.left) + growth (R.Target.meter self.old.right) (R.Target.meter self.new.right)) (outcome_of result) }
         ensures border { self.new.border ≡ self.old.border }
-        ensures below { if_okay (status_of result) (AskedOnce (OneWrite L.Target.map L.Target.meter span.entry.enabled.now «data».now) (OneWrite R.Target.map R.Target.meter span.entry.enabled.now «data».now) self.old.border span.entry.start (length span.entry.enabled.now) (sides_of self.old.border span.entry.start (length span.entry.enabled.now)) self.old.left self.new.left self.old.right self.new.right) ((self.new.left ≡ self.old.left) × (self.new.right ≡ self.old.right)) }
+        ensures below { if_okay (status_of result) (AskedSides (OneWrite L.Target.map L.Target.meter span.entry.enabled.now «data».now) (OneWrite R.Target.map R.Target.meter span.entry.enabled.now «data».now) span.entry.start (length span.entry.enabled.now) self.old self.new) ((self.new.left ≡ self.old.left) × (self.new.right ≡ self.old.right)) }
     {
         self.admit_sides(Command::Write, span, data)?;
         let (left, right) = (self.left.meter(), self.right.meter());

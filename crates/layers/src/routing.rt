@@ -1,11 +1,10 @@
 ghost use Rattle.std.specs.Prelude.{◌≡◌, ◌+◌, ◌-◌, ◌^◌, ◌<◌, ◌≤◌, length, nat_lt, OnOk};
+ghost use Rattle.bus.specs.Answers.{Okay, status_of};
 ghost use Rattle.bus.specs.Map.{judged, filled, written};
 ghost use Rattle.bus.specs.Target.{status_over};
-ghost use Rattle.bus.specs.Answers.{status_of};
 ghost use Rattle.bus.specs.declared.kinds.Command.TheVariants.{Read, Write};
-ghost use Rattle.bus.specs.Answers.{Okay};
-ghost use Rattle.layers.specs.Access.{AskedOnce, OneRead, OneWrite};
-ghost use Rattle.layers.specs.Route.{routed_by, sides_of};
+ghost use Rattle.layers.specs.Access.{AskedSides, OneRead, OneWrite};
+ghost use Rattle.layers.specs.Route.{routed_by};
 ghost use Rattle.layers.specs.Steps.{cut};
 
 use crate::below::{read_below, write_below};
@@ -47,6 +46,7 @@ fn halves<'a>(span: Span<'a>, at: usize, border: u32) -> (Span<'a>, Span<'a>)
 
 impl<L: Target, R: Target> Router<L, R> {
     // How a span is judged, by the side or the sides on which it lies.
+    #[tactic(auto, using(crate::proofs::Crossing::sides))]
     pub(crate) fn judge_sides(&self, command: Command, span: Span<'_>) -> Result<(), AccessError>
         ensures { status_of result ≡ judged (routed_by L.Target.map R.Target.map self.now) command span.entry.start span.entry.enabled.now }
     {
@@ -66,7 +66,7 @@ impl<L: Target, R: Target> Router<L, R> {
         }
     }
 
-    // What each access asks first, as `admit` asks it of the targets below.
+    // As `admit`, which takes a whole target: a read or a write of the router cannot hand the router on as one.
     pub(crate) fn admit_sides(
         &self,
         command: Command,
@@ -84,11 +84,12 @@ impl<L: Target, R: Target> Router<L, R> {
     }
 
     // Reads a span that is judged 1: over the border the left part first.
+    #[tactic(auto, using(crate::proofs::Crossing::sides))]
     pub(crate) fn read_sides(&mut self, span: Span<'_>, buffer: &mut [u8])
         requires length { length buffer.old ≡ length span.enabled.now }
         requires judged { judged (routed_by L.Target.map R.Target.map self.old) Read span.start span.enabled.now ≡ Okay }
         ensures bytes { buffer.new ≡ filled (routed_by L.Target.map R.Target.map self.old) span.entry.start span.entry.enabled.now buffer.old }
-        ensures accesses { AskedOnce (OneRead L.Target.map L.Target.meter span.entry.enabled.now) (OneRead R.Target.map R.Target.meter span.entry.enabled.now) self.old.border span.entry.start (length span.entry.enabled.now) (sides_of self.old.border span.entry.start (length span.entry.enabled.now)) self.old.left self.new.left self.old.right self.new.right }
+        ensures accesses { AskedSides (OneRead L.Target.map L.Target.meter span.entry.enabled.now) (OneRead R.Target.map R.Target.meter span.entry.enabled.now) span.entry.start (length span.entry.enabled.now) self.old self.new }
         ensures map { routed_by L.Target.map R.Target.map self.new ≡ routed_by L.Target.map R.Target.map self.old }
         ensures border { self.new.border ≡ self.old.border }
         ensures meter { self.new.meter ≡ self.old.meter }
@@ -105,10 +106,12 @@ impl<L: Target, R: Target> Router<L, R> {
     }
 
     // Writes to a span that is judged 1: over the border the left part first.
+    // A read changes the buffer and a write the map, so one function for both would be longer than the two.
+    #[tactic(auto, using(crate::proofs::Crossing::sides))]
     pub(crate) fn write_sides(&mut self, span: Span<'_>, bytes: &[u8])
         requires length { length bytes.now ≡ length span.enabled.now }
         requires judged { judged (routed_by L.Target.map R.Target.map self.old) Write span.start span.enabled.now ≡ Okay }
-        ensures accesses { AskedOnce (OneWrite L.Target.map L.Target.meter span.entry.enabled.now bytes.now) (OneWrite R.Target.map R.Target.meter span.entry.enabled.now bytes.now) self.old.border span.entry.start (length span.entry.enabled.now) (sides_of self.old.border span.entry.start (length span.entry.enabled.now)) self.old.left self.new.left self.old.right self.new.right }
+        ensures accesses { AskedSides (OneWrite L.Target.map L.Target.meter span.entry.enabled.now bytes.now) (OneWrite R.Target.map R.Target.meter span.entry.enabled.now bytes.now) span.entry.start (length span.entry.enabled.now) self.old self.new }
         ensures map { routed_by L.Target.map R.Target.map self.new ≡ written span.entry.start span.entry.enabled.now bytes.now (routed_by L.Target.map R.Target.map self.old) }
         ensures border { self.new.border ≡ self.old.border }
         ensures meter { self.new.meter ≡ self.old.meter }
