@@ -1,8 +1,6 @@
 -- What the contents of a device mean: address a is the place a of a list, and no address past the list is present.
-use Rattle.std.specs.Prelude.{ℕ, Bool, true, false, cond, List, length, Some, None, nat_lt, slice_index_or}
+use Rattle.std.specs.Prelude.{ℕ, Bool, true, false, cond, List, length, Some, None, Option, nat_lt, slice_index_or}
 use Rattle.bus.specs.Map.{AddressMap, Cell}
-use Rattle.bus.specs.declared.kinds.Command.{Command}
-use Rattle.bus.specs.declared.kinds.Command.TheVariants.{Read, Write, Ignore}
 
 -- `cell` says what a place of the list is as a byte.
 abbrev pub list_map : {A : Type 0} → A → (A → Cell) → List A → AddressMap
@@ -22,7 +20,7 @@ image_cell v = record { readable = true; writable = false; value = v; mask = 0 }
 abbrev pub image_map : List ℕ → AddressMap
 image_map bytes = list_map 0 image_cell bytes
 
-abbrev pub image_allows : Command → Bool
-image_allows Read = true
-image_allows Write = false
-image_allows Ignore = true
+-- Whether a byte is there and may be written.
+abbrev pub writable_at : Option Cell → Bool
+writable_at None = false
+writable_at (Some c) = c.writable

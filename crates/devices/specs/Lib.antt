@@ -1,5 +1,4 @@
 pub mod Outcomes
 pub mod Contents
-pub mod Steps
 pub mod Rows
 pub mod Bounds

@@ -5,9 +5,5 @@ pub(crate) fn at_most<T>(items: &[T], room: usize) -> &[T]
     ensures items { result.now ≡ take room items.now }
     ensures fits { length result.now ≤ room }
 {
-    if items.len() > room {
-        &items[0..room]
-    } else {
-        items
-    }
+    items.get(..room).unwrap_or(items)
 }

@@ -1,12 +1,11 @@
 ghost use Rattle.std.specs.Prelude.{◌≡◌, Some};
-ghost use Rattle.bus.specs.Map.{allowed};
-ghost use Rattle.devices.specs.Rows.{row_after, row_cell};
+ghost use Rattle.bus.specs.Map.{allowed, stored};
+ghost use Rattle.devices.specs.Rows.{row_cell};
 
-use crate::place::merge;
 use bus::Command;
 
 // A register of one byte: its rights, its value and the mask of its writable bits.
-#[derive(Clone, Copy)]
+#[derive(Clone, Copy, Debug, Default, PartialEq, Eq)]
 pub struct Row {
     pub readable: bool,
     pub writable: bool,
@@ -25,17 +24,10 @@ impl Row {
         }
     }
 
-    // The row after v came to it.
-    pub(crate) fn after(self, enabled: bool, v: u8) -> Row
-        ensures { result ≡ row_after self enabled v }
+    // Takes the value's bits where the mask has ones.
+    pub(crate) fn put(&mut self, value: u8)
+        ensures { row_cell self.new ≡ stored value (row_cell self.old) }
     {
-        if enabled {
-            Row {
-                value: merge(self.value, self.mask, v),
-                ..self
-            }
-        } else {
-            self
-        }
+        self.value = (self.value & !self.mask) | (value & self.mask);
     }
 }

@@ -1,75 +1,60 @@
-ghost use Rattle.std.specs.Prelude.{◌≡◌, ◌+◌, ◌≤◌, length, replicate};
-ghost use Rattle.bus.specs.Map.{judged};
-ghost use Rattle.bus.specs.Target.{ReadAs, WrittenAs};
-ghost use Rattle.bus.specs.Answers.{Okay, outcome_of, status_of};
-ghost use Rattle.devices.specs.Contents.{memory_map};
+ghost use Rattle.std.specs.Prelude.{◌≡◌, length, replicate, refl};
 ghost use Rattle.bus.specs.Delay.{limited};
-ghost use Rattle.devices.specs.Outcomes.{Charged};
+ghost use Rattle.devices.specs.Contents.{memory_cell, memory_map};
 ghost use Rattle.std.proofs.Common.{rules, arith};
 
-use crate::bytes;
-use bus::{AccessError, Command, Meter, Span, Target};
+use crate::contents::Contents;
+use crate::device::Device;
+use bus::Command;
 
-// Memory of its own: 4,096 bytes from address 0 on.
+// 4,096 bytes, each of which may be read and written.
 #[derive(Drop)]
-pub struct Scratchpad {
+pub struct Memory {
     bytes: [u8; 4096],
-    meter: Meter,
     ghost size: { length bytes ≡ 4096 },
 }
 
-impl Scratchpad {
-    pub fn new(latency: u64) -> Scratchpad
-        ensures map { memory_map result.bytes ≡ memory_map (replicate 4096 0) }
-        ensures meter { result.meter.spent ≡ 0 }
-        ensures latency { result.meter.rate ≡ limited latency }
-    {
-        Scratchpad {
-            bytes: [0; 4096],
-            meter: Meter::new(latency),
-        }
-    }
-}
+impl Contents for Memory {
+    type Item = u8;
 
-impl Target for Scratchpad {
     ghost map = { λ s. memory_map s.bytes };
 
-    ghost meter = { λ s. s.meter.spent };
+    ghost items = { λ s. s.bytes };
+
+    ghost cell = { memory_cell };
+
+    ghost blank = { 0 };
+
+    ghost listed = { λ s. refl };
 
     ghost bounded = { first_of (Prim.search rules, Prim.grind (arith, Self.row.coded.inj)) };
 
-    fn judge(&self, _command: Command, span: Span<'_>) -> Result<(), AccessError>
-        ensures answer { status_of result ≡ judged (memory_map self.now.bytes) _command span.entry.start span.entry.enabled.now }
-        ensures within { status_of result ≡ Okay → span.entry.start + length span.entry.enabled.now ≤ 4096 }
-    {
-        bytes::judge(&self.bytes, span)
+    fn items(&self) -> &[u8] {
+        &self.bytes
     }
 
-    fn read(&mut self, span: Span<'_>, buffer: &mut [u8]) -> Result<u64, AccessError>
-        ensures answer { ReadAs (memory_map self.old.bytes) self.old.meter.spent span.entry.start span.entry.enabled.now buffer.old (outcome_of result) buffer.new (memory_map self.new.bytes) self.new.meter.spent }
-        ensures charge { Charged self.old.meter.rate self.new.meter.rate (outcome_of result) }
-    {
-        if buffer.len() != span.enabled.len() {
-            return Err(AccessError::WrongLength);
-        }
-        self.judge(Command::Read, span)?;
-        bytes::fill(&self.bytes, span, buffer);
-        Ok(self.meter.charge())
+    fn value(byte: u8) -> u8 {
+        byte
     }
 
-    fn write(&mut self, span: Span<'_>, data: &[u8]) -> Result<u64, AccessError>
-        ensures answer { WrittenAs (memory_map self.old.bytes) self.old.meter.spent span.entry.start span.entry.enabled.now «data».now (outcome_of result) (memory_map self.new.bytes) self.new.meter.spent }
-        ensures charge { Charged self.old.meter.rate self.new.meter.rate (outcome_of result) }
-    {
-        if data.len() != span.enabled.len() {
-            return Err(AccessError::WrongLength);
-        }
-        self.judge(Command::Write, span)?;
-        bytes::store(&mut self.bytes, span, data);
-        Ok(self.meter.charge())
+    fn allows(_byte: u8, _command: Command) -> bool {
+        true
     }
 
-    fn meter(&self) -> u64 {
-        self.meter.spent()
+    fn put(&mut self, place: usize, value: u8) {
+        self.bytes[place] = value;
+    }
+}
+
+// Memory of its own: 4,096 bytes from address 0 on.
+pub type Scratchpad = Device<Memory>;
+
+impl Device<Memory> {
+    pub fn new(latency: u64) -> Scratchpad
+        ensures map { memory_map result.contents.bytes ≡ memory_map (replicate 4096 0) }
+        ensures meter { result.meter.spent ≡ 0 }
+        ensures latency { result.meter.rate ≡ limited latency }
+    {
+        Device::holding(Memory { bytes: [0; 4096] }, latency)
     }
 }

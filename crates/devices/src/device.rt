@@ -1,0 +1,127 @@
+ghost use Rattle.std.specs.Prelude.{◌≡◌, ◌+◌, ◌≤◌, length, Some, OnOk};
+ghost use Rattle.bus.specs.Answers.{Okay, outcome_of, status_of};
+ghost use Rattle.bus.specs.Delay.{limited};
+ghost use Rattle.std.specs.List.{list_all};
+ghost use Rattle.bus.specs.Map.{allowed, filled, judged, written};
+ghost use Rattle.bus.specs.Target.{ReadAs, WrittenAs, status_over};
+ghost use Rattle.bus.specs.declared.kinds.Command.TheVariants.{Write};
+ghost use Rattle.devices.specs.Outcomes.{Charged};
+
+use crate::contents::Contents;
+use bus::{AccessError, Command, Meter, Span, Target};
+
+// A target that serves what it holds, each access at the same latency.
+#[derive(Drop)]
+pub struct Device<C> {
+    pub(crate) contents: C,
+    pub(crate) meter: Meter,
+}
+
+impl<C: Contents> Device<C> {
+    pub(crate) fn holding(contents: C, latency: u64) -> Device<C>
+        ensures map { C.map result.contents ≡ C.map contents }
+        ensures meter { result.meter.spent ≡ 0 }
+        ensures latency { result.meter.rate ≡ limited latency }
+    {
+        Device {
+            contents,
+            meter: Meter::new(latency),
+        }
+    }
+
+    // Whether the bytes are of the span's length, and how the span is judged.
+    fn admit(&self, command: Command, span: Span<'_>, bytes: &[u8]) -> Result<(), AccessError>
+        ensures status { status_of result ≡ status_over (C.map self.now.contents) command span.entry.start span.entry.enabled.now bytes.now }
+        ensures sized { OnOk result (length bytes.now ≡ length span.entry.enabled.now) }
+        ensures within { OnOk result (span.entry.start + length span.entry.enabled.now ≤ length (C.items self.now.contents)) }
+        ensures judged { OnOk result (judged (C.map self.now.contents) command span.entry.start span.entry.enabled.now ≡ Okay) }
+    {
+        if bytes.len() != span.enabled.len() {
+            return Err(AccessError::WrongLength);
+        }
+        self.judge(command, span)
+    }
+
+    // Reads the span into the buffer.
+    fn fill(&self, span: Span<'_>, buffer: &mut [u8])
+        requires length { length buffer.old ≡ length span.enabled.now }
+        requires within { span.start + length span.enabled.now ≤ length (C.items self.now.contents) }
+        ensures { buffer.new ≡ filled (C.map self.now.contents) span.entry.start span.entry.enabled.now buffer.old }
+    {
+        let start = span.start as usize;
+        let items = self.contents.items();
+        for (i, place) in buffer.iter_mut().enumerate() {
+            if span.enabled[i] {
+                *place = C::value(items[start + i]);
+            }
+        }
+    }
+
+    // Writes the data to the span.
+    fn store(&mut self, span: Span<'_>, data: &[u8])
+        requires length { length «data».now ≡ length span.enabled.now }
+        requires judged { judged (C.map self.old.contents) Write span.start span.enabled.now ≡ Okay }
+        ensures map { C.map self.new.contents ≡ written span.entry.start span.entry.enabled.now «data».now (C.map self.old.contents) }
+        ensures meter { self.new.meter ≡ self.old.meter }
+    {
+        let start = span.start as usize;
+        for (i, value) in data.iter().enumerate() {
+            if span.enabled[i] {
+                self.contents.put(start + i, *value);
+            }
+        }
+    }
+}
+
+// Whether a command may touch each of the bytes.
+fn allow<C: Contents>(items: &[C::Item], command: Command) -> bool
+    ensures { result ≡ list_all (λ item. allowed command (Some (C.cell item))) items.now }
+{
+    items.iter().all(|item| C::allows(*item, command))
+}
+
+impl<C: Contents> Target for Device<C> {
+    ghost map = { λ s. C.map s.contents };
+
+    ghost meter = { λ s. s.meter.spent };
+
+    ghost bounded = { λ s. C.bounded s.contents };
+
+    fn judge(&self, command: Command, span: Span<'_>) -> Result<(), AccessError>
+        ensures answer { status_of result ≡ judged (C.map self.now.contents) command span.entry.start span.entry.enabled.now }
+        ensures within { status_of result ≡ Okay → span.entry.start + length span.entry.enabled.now ≤ length (C.items self.now.contents) }
+    {
+        let start = span.start as usize;
+        let end = start + span.enabled.len();
+        let Some(items) = self.contents.items().get(start..end) else {
+            return Err(AccessError::AbsentByte);
+        };
+        if allow::<C>(items, command) {
+            Ok(())
+        } else {
+            Err(AccessError::MissingRight)
+        }
+    }
+
+    fn read(&mut self, span: Span<'_>, buffer: &mut [u8]) -> Result<u64, AccessError>
+        ensures answer { ReadAs (C.map self.old.contents) self.old.meter.spent span.entry.start span.entry.enabled.now buffer.old (outcome_of result) buffer.new (C.map self.new.contents) self.new.meter.spent }
+        ensures charge { Charged self.old.meter.rate self.new.meter.rate (outcome_of result) }
+    {
+        self.admit(Command::Read, span, buffer)?;
+        self.fill(span, buffer);
+        Ok(self.meter.charge())
+    }
+
+    fn write(&mut self, span: Span<'_>, data: &[u8]) -> Result<u64, AccessError>
+        ensures answer { WrittenAs (C.map self.old.contents) self.old.meter.spent span.entry.start span.entry.enabled.now «data».now (outcome_of result) (C.map self.new.contents) self.new.meter.spent }
+        ensures charge { Charged self.old.meter.rate self.new.meter.rate (outcome_of result) }
+    {
+        self.admit(Command::Write, span, data)?;
+        self.store(span, data);
+        Ok(self.meter.charge())
+    }
+
+    fn meter(&self) -> u64 {
+        self.meter.spent()
+    }
+}
