@@ -16,6 +16,7 @@ pub trait Contents {
     // what an item is as a byte
     ghost cell: { Self.Item → Cell };
 
+    // what stands past the last item
     ghost blank: { Self.Item };
 
     fn items(&self) -> &[Self::Item]

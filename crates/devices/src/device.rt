@@ -41,36 +41,6 @@ impl<C: Contents> Device<C> {
         }
         self.judge(command, span)
     }
-
-    // Reads the span into the buffer.
-    fn fill(&self, span: Span<'_>, buffer: &mut [u8])
-        requires length { length buffer.old ≡ length span.enabled.now }
-        requires within { span.start + length span.enabled.now ≤ length (C.items self.now.contents) }
-        ensures { buffer.new ≡ filled (C.map self.now.contents) span.entry.start span.entry.enabled.now buffer.old }
-    {
-        let start = span.start as usize;
-        let items = self.contents.items();
-        for (i, place) in buffer.iter_mut().enumerate() {
-            if span.enabled[i] {
-                *place = C::value(items[start + i]);
-            }
-        }
-    }
-
-    // Writes the data to the span.
-    fn store(&mut self, span: Span<'_>, data: &[u8])
-        requires length { length «data».now ≡ length span.enabled.now }
-        requires judged { judged (C.map self.old.contents) Write span.start span.enabled.now ≡ Okay }
-        ensures map { C.map self.new.contents ≡ written span.entry.start span.entry.enabled.now «data».now (C.map self.old.contents) }
-        ensures meter { self.new.meter ≡ self.old.meter }
-    {
-        let start = span.start as usize;
-        for (i, value) in data.iter().enumerate() {
-            if span.enabled[i] {
-                self.contents.put(start + i, *value);
-            }
-        }
-    }
 }
 
 // Whether a command may touch each of the bytes.
@@ -78,6 +48,35 @@ fn allow<C: Contents>(items: &[C::Item], command: Command) -> bool
     ensures { result ≡ list_all (λ item. allowed command (Some (C.cell item))) items.now }
 {
     items.iter().all(|item| C::allows(*item, command))
+}
+
+// Reads the span into the buffer.
+fn fill<C: Contents>(contents: &C, span: Span<'_>, buffer: &mut [u8])
+    requires length { length buffer.old ≡ length span.enabled.now }
+    requires within { span.start + length span.enabled.now ≤ length (C.items contents.now) }
+    ensures { buffer.new ≡ filled (C.map contents.now) span.entry.start span.entry.enabled.now buffer.old }
+{
+    let start = span.start as usize;
+    let items = contents.items();
+    for (i, place) in buffer.iter_mut().enumerate() {
+        if span.enabled[i] {
+            *place = C::value(items[start + i]);
+        }
+    }
+}
+
+// Writes the data to the span.
+fn store<C: Contents>(contents: &mut C, span: Span<'_>, data: &[u8])
+    requires length { length «data».now ≡ length span.enabled.now }
+    requires judged { judged (C.map contents.old) Write span.start span.enabled.now ≡ Okay }
+    ensures { C.map contents.new ≡ written span.entry.start span.entry.enabled.now «data».now (C.map contents.old) }
+{
+    let start = span.start as usize;
+    for (i, value) in data.iter().enumerate() {
+        if span.enabled[i] {
+            contents.put(start + i, *value);
+        }
+    }
 }
 
 impl<C: Contents> Target for Device<C> {
@@ -108,7 +107,7 @@ impl<C: Contents> Target for Device<C> {
         ensures charge { Charged self.old.meter.rate self.new.meter.rate (outcome_of result) }
     {
         self.admit(Command::Read, span, buffer)?;
-        self.fill(span, buffer);
+        fill(&self.contents, span, buffer);
         Ok(self.meter.charge())
     }
 
@@ -117,7 +116,7 @@ impl<C: Contents> Target for Device<C> {
         ensures charge { Charged self.old.meter.rate self.new.meter.rate (outcome_of result) }
     {
         self.admit(Command::Write, span, data)?;
-        self.store(span, data);
+        store(&mut self.contents, span, data);
         Ok(self.meter.charge())
     }
 

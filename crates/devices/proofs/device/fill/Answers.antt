@@ -2,13 +2,13 @@ use Rattle.std.proofs.Common.{ℕ, ◌+◌, Bool, true, false, length, get_or, r
 use Rattle.devices.specs.Contents.{list_map}
 use Rattle.devices.proofs.Judging.{listed_value}
 use Rattle.devices.proofs.Filling.{one_filled, all_filled}
-use Rattle.devices.proofs.device.Device.fill.Goals as goal
-use Rattle.devices.proofs.device.Device.fill.Goals.{then-span-i, else-span-i}
+use Rattle.devices.proofs.device.fill.Goals as goal
+use Rattle.devices.proofs.device.fill.Goals.{then-span-i, else-span-i}
 
 pub loop-i-preserved : goal.loop-i-preserved
 loop-i-preserved g c =
     let contents = g.C.Contents in
-    let held = c.args.self.now.contents in
+    let held = c.args.contents.now in
     let a = c.args.span.start in
     let i = c.loop-i.i in
     let items = c.items-items.result.now in
@@ -22,4 +22,4 @@ loop-i-preserved g c =
     ]
 
 pub returns : goal.returns
-returns g c = all_filled (g.C.Contents.map c.args.self.now.contents) c.args.span.start c.args.span.enabled.now c.args.buffer.now c.loop-i.buffer c.loop-i.i (omega arith) c.loop-i.invariant
+returns g c = all_filled (g.C.Contents.map c.args.contents.now) c.args.span.start c.args.span.enabled.now c.args.buffer.now c.loop-i.buffer c.loop-i.i (omega arith) c.loop-i.invariant
