@@ -8,7 +8,7 @@ use devices::Scratchpad;
 pub(crate) type Interconnect = Scratchpad;
 
 pub(crate) fn interconnect() -> Interconnect
-    ensures map { memory_map result.bytes ≡ start_map }
+    ensures map { memory_map result.contents.bytes ≡ start_map }
     ensures meter { result.meter.spent ≡ 0 }
     ensures latency { result.meter.rate ≡ 5 }
 {

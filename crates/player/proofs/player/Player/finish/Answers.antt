@@ -1,10 +1,10 @@
-use Rattle.std.proofs.Common.{◌≡◌, ℕ, sym, refl, arith, rules}
-use Rattle.std.proofs.lemmas.Bool.{not-true, not-false}
+use Rattle.std.proofs.Common.{◌≡◌, ℕ, sym, arith, rules}
+use Rattle.std.proofs.lemmas.Bool.{not-true}
 use Rattle.lines.specs.Buffers.{held}
 use Rattle.lines.specs.Lines.{none_held}
 use Rattle.response.specs.Texts.{text}
 use Rattle.player.specs.Start.{state_of}
-use Rattle.player.proofs.Stream.{finished, finished_line}
+use Rattle.player.proofs.Stream.{finished_line}
 use Rattle.player.proofs.player.Player.finish.Goals as goal
 
 pub returns : goal.returns
