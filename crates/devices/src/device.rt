@@ -30,6 +30,7 @@ impl<C: Contents> Device<C> {
     }
 
     // Whether the bytes are of the span's length, and how the span is judged.
+    // `bus::admit` asks for a target, which a device is not yet within its own impl of `Target`.
     fn admit(&self, command: Command, span: Span<'_>, bytes: &[u8]) -> Result<(), AccessError>
         ensures status { status_of result ≡ status_over (C.map self.now.contents) command span.entry.start span.entry.enabled.now bytes.now }
         ensures sized { OnOk result (length bytes.now ≡ length span.entry.enabled.now) }
@@ -58,6 +59,7 @@ fn fill<C: Contents>(contents: &C, span: Span<'_>, buffer: &mut [u8])
 {
     let start = span.start as usize;
     let items = contents.items();
+    // By index: of what a loop over a zip of `iter_mut` writes, no proof knows the bytes.
     for (i, place) in buffer.iter_mut().enumerate() {
         if span.enabled[i] {
             *place = C::value(items[start + i]);
