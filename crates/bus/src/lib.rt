@@ -17,4 +17,4 @@ pub use numbers::{status_number, worse};
 pub use payload::Payload;
 pub use serving::serve;
 pub use span::Span;
-pub use target::{Target, admit};
+pub use target::Target;

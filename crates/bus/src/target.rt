@@ -17,6 +17,18 @@ pub trait Target {
     fn judge(&self, command: Command, span: Span<'_>) -> Result<(), AccessError>
         ensures { status_of result ≡ judged (map self.now) command span.entry.start span.entry.enabled.now };
 
+    // What each access asks first: whether the bytes are of the span's length, and how the target judges the span.
+    fn admit(&self, command: Command, span: Span<'_>, bytes: &[u8]) -> Result<(), AccessError>
+        ensures status { status_of result ≡ status_over (map self.now) command span.entry.start span.entry.enabled.now bytes.now }
+        ensures sized { OnOk result (length bytes.now ≡ length span.entry.enabled.now) }
+        ensures judged { OnOk result (judged (map self.now) command span.entry.start span.entry.enabled.now ≡ Okay) }
+    {
+        if bytes.len() != span.enabled.len() {
+            return Err(AccessError::WrongLength);
+        }
+        self.judge(command, span)
+    }
+
     // Answers the delay, in nanoseconds.
     fn read(&mut self, span: Span<'_>, buffer: &mut [u8]) -> Result<u64, AccessError>
         ensures { ReadAs (map self.old) (meter self.old) span.entry.start span.entry.enabled.now buffer.old (outcome_of result) buffer.new (map self.new) (meter self.new) };
@@ -29,21 +41,4 @@ pub trait Target {
 
     // no address from 2^32 up is present
     ghost bounded: { (s : Self) (a : ℕ) → 2 ^ 32 ≤ a → map s a ≡ None };
-}
-
-// What each access asks first: whether the bytes are of the span's length, and how the target judges the span.
-pub fn admit<T: Target>(
-    target: &T,
-    command: Command,
-    span: Span<'_>,
-    bytes: &[u8],
-) -> Result<(), AccessError>
-    ensures status { status_of result ≡ status_over (T.map target.now) command span.entry.start span.entry.enabled.now bytes.now }
-    ensures sized { OnOk result (length bytes.now ≡ length span.entry.enabled.now) }
-    ensures judged { OnOk result (judged (T.map target.now) command span.entry.start span.entry.enabled.now ≡ Okay) }
-{
-    if bytes.len() != span.enabled.len() {
-        return Err(AccessError::WrongLength);
-    }
-    target.judge(command, span)
 }

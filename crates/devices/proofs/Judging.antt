@@ -64,6 +64,11 @@ judged_at m c a es e i l =
     let both = okay_means _ _ e in
     (every_at present m a es i both.0 l, every_at (allowed c) m a es i both.1 l)
 
+-- A span that is judged 1 lies within the items.
+pub judged_okay : {A : Type 0} (d : A) (cell : A → Cell) (xs : List A) (m : AddressMap) (c : Command) (a : ℕ) (es : List Bool) → m ≡ list_map d cell xs → 1 ≤ length es → judged m c a es ≡ Okay → a + length es ≤ length xs
+judged_okay d cell xs m c a es same some okay =
+    ⊎_elim (λ lt. let no : AddressError ≡ Okay = judged_past d cell xs m c a es same some lt ∙ okay in cc) (λ le. le) (cases_lt (length xs) (a + length es))
+
 -- A byte that may be written is there.
 pub writable_within : {A : Type 0} (d : A) (cell : A → Cell) (xs : List A) (a : ℕ) → writable_at (list_map d cell xs a) ≡ true → a < length xs
 writable_within d cell xs a writable =

@@ -28,20 +28,6 @@ impl<C: Contents> Device<C> {
             meter: Meter::new(latency),
         }
     }
-
-    // Whether the bytes are of the span's length, and how the span is judged.
-    // `bus::admit` asks for a target, which a device is not yet within its own impl of `Target`.
-    fn admit(&self, command: Command, span: Span<'_>, bytes: &[u8]) -> Result<(), AccessError>
-        ensures status { status_of result ≡ status_over (C.map self.now.contents) command span.entry.start span.entry.enabled.now bytes.now }
-        ensures sized { OnOk result (length bytes.now ≡ length span.entry.enabled.now) }
-        ensures within { OnOk result (span.entry.start + length span.entry.enabled.now ≤ length (C.items self.now.contents)) }
-        ensures judged { OnOk result (judged (C.map self.now.contents) command span.entry.start span.entry.enabled.now ≡ Okay) }
-    {
-        if bytes.len() != span.enabled.len() {
-            return Err(AccessError::WrongLength);
-        }
-        self.judge(command, span)
-    }
 }
 
 // Whether a command may touch each of the bytes.

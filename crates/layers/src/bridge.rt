@@ -13,7 +13,7 @@ use crate::below::{read_below, write_below};
 use crate::growth::growth_since;
 use crate::lend::part;
 use crate::pieces::{Pieces, count_pieces};
-use bus::{AccessError, Command, Meter, Span, Target, admit};
+use bus::{AccessError, Command, Meter, Span, Target};
 
 // Hands each span down in pieces that pass no multiple of the width.
 #[derive(Drop)]
@@ -105,7 +105,7 @@ impl<T: Target> Target for Bridge<T> {
         ensures width { self.new.width ≡ self.old.width }
         ensures below { if_okay (status_of result) (InPieces (λ i j. OneRead T.Target.map T.Target.meter span.entry.enabled.now (span.entry.start + i) i j) self.old.width span.entry.start (length span.entry.enabled.now) self.old.lower self.new.lower) (self.new.lower ≡ self.old.lower) }
     {
-        admit(&self.lower, Command::Read, span, buffer)?;
+        self.admit(Command::Read, span, buffer)?;
         let before = self.lower.meter();
         self.read_pieces(span, buffer);
         let count = count_pieces(span, self.width);
@@ -118,7 +118,7 @@ impl<T: Target> Target for Bridge<T> {
         ensures width { self.new.width ≡ self.old.width }
         ensures below { if_okay (status_of result) (InPieces (λ i j. OneWrite T.Target.map T.Target.meter span.entry.enabled.now «data».now (span.entry.start + i) i j) self.old.width span.entry.start (length span.entry.enabled.now) self.old.lower self.new.lower) (self.new.lower ≡ self.old.lower) }
     {
-        admit(&self.lower, Command::Write, span, data)?;
+        self.admit(Command::Write, span, data)?;
         let before = self.lower.meter();
         self.write_pieces(span, data);
         let count = count_pieces(span, self.width);

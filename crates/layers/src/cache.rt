@@ -12,7 +12,7 @@ ghost use Rattle.layers.specs.Lines.{Sound, held_ins, held_after_read, held_afte
 use crate::growth::growth_since;
 use crate::line::Line;
 use crate::pieces::count_pieces;
-use bus::{AccessError, Command, Meter, Span, Target, admit};
+use bus::{AccessError, Command, Meter, Span, Target};
 
 // Keeps 8 lines of 16 bytes that were read below, each in its place. A write goes through to the lower target.
 #[derive(Drop)]
@@ -59,7 +59,7 @@ impl<T: Target> Target for Cache<T> {
         ensures charge { Charged self.old.meter.rate self.new.meter.rate (pieces 16 span.entry.start (length span.entry.enabled.now)) (growth (T.Target.meter self.old.lower) (T.Target.meter self.new.lower)) (outcome_of result) }
         ensures below { if_okay (status_of result) (InPieces (PieceRead T.Target.map T.Target.meter span.entry.start span.entry.enabled.now) 16 span.entry.start (length span.entry.enabled.now) (self.old.lower, held_ins self.old.lines) (self.new.lower, held_ins self.new.lines)) (self.new.lower ≡ self.old.lower) }
     {
-        admit(&self.lower, Command::Read, span, buffer)?;
+        self.admit(Command::Read, span, buffer)?;
         let before = self.lower.meter();
         self.read_lines(span, buffer);
         let count = count_pieces(span, 16);
@@ -72,7 +72,7 @@ impl<T: Target> Target for Cache<T> {
         ensures charge { Charged self.old.meter.rate self.new.meter.rate 1 (growth (T.Target.meter self.old.lower) (T.Target.meter self.new.lower)) (outcome_of result) }
         ensures below { if_okay (status_of result) (OneWrite T.Target.map T.Target.meter span.entry.enabled.now «data».now span.entry.start 0 (length span.entry.enabled.now) self.old.lower self.new.lower) (self.new.lower ≡ self.old.lower) }
     {
-        admit(&self.lower, Command::Write, span, data)?;
+        self.admit(Command::Write, span, data)?;
         let before = self.lower.meter();
         self.write_lines(span, data);
         Ok(self.meter.settle(1, growth_since(&self.lower, before)))

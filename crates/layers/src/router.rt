@@ -59,7 +59,7 @@ impl<L: Target, R: Target> Target for Router<L, R> {
         ensures border { self.new.border ≡ self.old.border }
         ensures below { if_okay (status_of result) (AskedSides (OneRead L.Target.map L.Target.meter span.entry.enabled.now) (OneRead R.Target.map R.Target.meter span.entry.enabled.now) span.entry.start (length span.entry.enabled.now) self.old self.new) ((self.new.left ≡ self.old.left) × (self.new.right ≡ self.old.right)) }
     {
-        self.admit_sides(Command::Read, span, buffer)?;
+        self.admit(Command::Read, span, buffer)?;
         let (left, right) = (self.left.meter(), self.right.meter());
         self.read_sides(span, buffer);
         let left = growth_since(&self.left, left);
@@ -74,7 +74,7 @@ impl<L: Target, R: Target> Target for Router<L, R> {
         ensures border { self.new.border ≡ self.old.border }
         ensures below { if_okay (status_of result) (AskedSides (OneWrite L.Target.map L.Target.meter span.entry.enabled.now «data».now) (OneWrite R.Target.map R.Target.meter span.entry.enabled.now «data».now) span.entry.start (length span.entry.enabled.now) self.old self.new) ((self.new.left ≡ self.old.left) × (self.new.right ≡ self.old.right)) }
     {
-        self.admit_sides(Command::Write, span, data)?;
+        self.admit(Command::Write, span, data)?;
         let (left, right) = (self.left.meter(), self.right.meter());
         self.write_sides(span, data);
         let left = growth_since(&self.left, left);

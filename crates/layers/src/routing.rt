@@ -66,23 +66,6 @@ impl<L: Target, R: Target> Router<L, R> {
         }
     }
 
-    // As `admit`, which takes a whole target: a read or a write of the router cannot hand the router on as one.
-    pub(crate) fn admit_sides(
-        &self,
-        command: Command,
-        span: Span<'_>,
-        bytes: &[u8],
-    ) -> Result<(), AccessError>
-        ensures status { status_of result ≡ status_over (routed_by L.Target.map R.Target.map self.now) command span.entry.start span.entry.enabled.now bytes.now }
-        ensures sized { OnOk result (length bytes.now ≡ length span.entry.enabled.now) }
-        ensures judged { OnOk result (judged (routed_by L.Target.map R.Target.map self.now) command span.entry.start span.entry.enabled.now ≡ Okay) }
-    {
-        if bytes.len() != span.enabled.len() {
-            return Err(AccessError::WrongLength);
-        }
-        self.judge_sides(command, span)
-    }
-
     // Reads a span that is judged 1: over the border the left part first.
     #[tactic(auto, using(crate::proofs::Crossing::sides))]
     pub(crate) fn read_sides(&mut self, span: Span<'_>, buffer: &mut [u8])
