@@ -53,7 +53,7 @@ fn fill<C: Contents>(contents: &C, span: Span<'_>, buffer: &mut [u8])
     }
 }
 
-// Writes the data to the span.
+// Writes the data to the span: its enabled bytes, one after another in ascending order, by their index.
 fn store<C: Contents>(contents: &mut C, span: Span<'_>, data: &[u8])
     requires length { length «data».now ≡ length span.enabled.now }
     requires judged { judged (C.map contents.old) Write span.start span.enabled.now ≡ Okay }

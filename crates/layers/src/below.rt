@@ -6,6 +6,10 @@ ghost use Rattle.layers.specs.Access.{OneRead, OneWrite};
 
 use bus::{Span, Target};
 
+// A span and its buffer are two parameters throughout, of one length by a clause. A type for both, with the length as a fact
+// of its own, has no proof: the borrow checker "does not cover" a value that holds a `&mut` and a ghost field, and is
+// written through in a loop.
+
 // Reads a span that is judged 1, in one access below.
 pub(crate) fn read_below<T: Target>(lower: &mut T, span: Span<'_>, buffer: &mut [u8])
     requires length { length buffer.old ≡ length span.enabled.now }

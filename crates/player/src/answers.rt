@@ -23,6 +23,7 @@ fn read_line(line: Option<&[u8]>, first: bool) -> Result<Record<'_>, PlayerFault
     }
 }
 
+// The platform is the player's and the text its caller's, so they stay two parameters.
 fn answer_record(platform: &mut Platform<Interconnect>, record: Record<'_>, out: &mut Text)
     ensures { Printed (text out.new) (λ l. SaidAnswered (said «record».entry) (state_of platform.old) l (state_of platform.new)) }
 {

@@ -37,7 +37,7 @@ fn buffer_for(call: Transfer<'_>) -> ArrayVec<u8, 128>
     }
 }
 
-// A READ of status 1 shows its bytes.
+// A READ of status 1 shows its bytes. The command is the number of the line, which the call may have refused.
 fn shown_data(command: u8, status: Result<(), AccessError>, buffer: &[u8]) -> Option<&[u8]>
     ensures { option_map (λ x. x.now) result ≡ (if nat_eq command 0 && is_okay (status_of status) then Some buffer.now else None) }
 {
@@ -47,6 +47,7 @@ fn shown_data(command: u8, status: Result<(), AccessError>, buffer: &[u8]) -> Op
     }
 }
 
+// What a call came to. The command is that number too.
 fn respond(port: u64, command: u8, answer: Result<Blocked, Refusal>, buffer: &[u8]) -> Response<'_>
     ensures { seen result ≡ blocking_line port command (blocking_answer answer buffer.now) }
 {

@@ -103,7 +103,8 @@ impl Player {
         }
     }
 
-    // Ends the input: a last line that lacks its LF is answered too.
+    // Ends the input: a last line that lacks its LF is answered too. Answers whether there was one; the answer itself
+    // stands in `out`, as after `hear`.
     pub fn finish(&mut self, out: &mut Text) -> bool
         ensures answered { result ≡ not (none_held (held self.old.line)) }
         ensures silent { result ≡ false → (out.new ≡ out.old) × (self.new ≡ self.old) }

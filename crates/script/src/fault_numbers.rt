@@ -3,6 +3,7 @@ ghost use Rattle.script.specs.Faults.{field_of, cause_of};
 
 use crate::faults::{PlayerFault, RecordFault};
 
+// A fault has two numbers, so neither is a `From`.
 impl PlayerFault {
     // The field that BAD names: 0 is the whole line, 1 the letter.
     pub fn field(self) -> usize

@@ -22,7 +22,8 @@ fn within_span(count: usize) -> usize
     count.clamp(1, 64)
 }
 
-// What an access costs, or why it is not served. What is only judged costs nothing.
+// What an access costs, or why it is not served. What is only judged costs nothing. By a `match`, and no table of calls,
+// since the three take different arguments.
 fn run<T: Target>(
     target: &mut T,
     command: Command,
@@ -36,6 +37,7 @@ fn run<T: Target>(
     }
 }
 
+// The words of the table, where an IGNORE is a judgment.
 fn letter(command: Command) -> &'static str {
     match command {
         Command::Read => "read",
