@@ -45,7 +45,9 @@ impl Contents for Registers {
     }
 
     fn put(&mut self, place: usize, value: u8) {
-        self.rows[place].put(value);
+        if place < self.rows.len() {
+            self.rows[place].put(value);
+        }
     }
 }
 

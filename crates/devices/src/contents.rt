@@ -29,10 +29,9 @@ pub trait Contents {
     fn allows(item: Self::Item, command: Command) -> bool
         ensures { result ≡ allowed command (Some (cell item)) };
 
-    // Puts a value into the writable bits of a byte that may be written.
+    // Puts a value into the writable bits of a byte that is there and may be written.
     fn put(&mut self, place: usize, value: u8)
-        requires { writable_at (map self.old place) ≡ true }
-        ensures { map self.new ≡ put place value (map self.old) };
+        ensures { writable_at (map self.old place) ≡ true → map self.new ≡ put place value (map self.old) };
 
     // the map is that of the items
     ghost listed: { (s : Self) → map s ≡ list_map blank cell (items s) };

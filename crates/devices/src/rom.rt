@@ -68,9 +68,8 @@ impl<I: Image> Contents for ReadOnly<I> {
         }
     }
 
-    fn put(&mut self, _place: usize, _value: u8) {
-        unreachable!() // no byte may be written
-    }
+    // No byte may be written.
+    fn put(&mut self, _place: usize, _value: u8) {}
 }
 
 // An image that may only be read, from address 0 on. What lies past 65,536 bytes is not present.

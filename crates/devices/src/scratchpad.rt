@@ -42,7 +42,9 @@ impl Contents for Memory {
     }
 
     fn put(&mut self, place: usize, value: u8) {
-        self.bytes[place] = value;
+        if place < self.bytes.len() {
+            self.bytes[place] = value;
+        }
     }
 }
 

@@ -12,7 +12,7 @@ loop-i-preserved g c =
     let map = g.C.Contents.map in
     let more = λ (m : AddressMap) (e : Bool). one_stored c.args.span.start c.args.span.enabled.now c.args.data.now (map c.args.contents.now) (map c.loop-i.contents) m c.loop-i.i e (omega arith) (omega arith) c.loop-i.invariant in
     elim c.if-span-i.branch [
-      | then-span-i w ↦ rw w.contents-is (more (map w.put.new.self) true w.if-span-i.true w.put.ensures)
+      | then-span-i w ↦ rw w.contents-is (more (map w.put.new.self) true w.if-span-i.true (w.put.ensures (c.loop-i.invariant.writable c.loop-i.i (omega arith))))
       | else-span-i w ↦ rw w.contents-is (more (map c.loop-i.contents) false w.if-span-i.false refl)
     ]
 
