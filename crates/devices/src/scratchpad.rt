@@ -11,7 +11,7 @@ use bus::Command;
 #[derive(Drop)]
 pub struct Memory {
     bytes: [u8; 4096],
-    ghost size: { length bytes ≡ 4096 },
+    pub ghost size: { length bytes ≡ 4096 },
 }
 
 impl Contents for Memory {

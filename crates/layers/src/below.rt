@@ -8,7 +8,9 @@ use bus::{Span, Target};
 
 // A span and its buffer are two parameters throughout, of one length by a clause. A type for both, with the length as a fact
 // of its own, has no proof: the borrow checker "does not cover" a value that holds a `&mut` and a ghost field, and is
-// written through in a loop.
+// written through in a loop. One for a span and its data alone would part the two halves of each pair. That a span is
+// judged 1 is a fact about the target at the call, and so a clause too. Both functions stand here as the ones above them
+// do: one lends a buffer, the other shows data.
 
 // Reads a span that is judged 1, in one access below.
 pub(crate) fn read_below<T: Target>(lower: &mut T, span: Span<'_>, buffer: &mut [u8])

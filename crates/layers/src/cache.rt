@@ -20,7 +20,7 @@ pub struct Cache<T: Target> {
     pub(crate) lower: T,
     pub(crate) lines: [Option<Line>; 8],
     meter: Meter,
-    ghost sound: { Sound (T.Target.map lower) lines },
+    pub ghost sound: { Sound (T.Target.map lower) lines },
 }
 
 impl<T: Target> Cache<T> {

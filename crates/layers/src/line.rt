@@ -11,7 +11,7 @@ pub(crate) struct Line {
     pub(crate) bytes: [u8; 16],
 }
 
-// What a place holds after a write to the span.
+// What a place holds after a write to the span. By a `match`: for `filter` the search found no proof.
 pub(crate) fn unless_met(place: Option<Line>, span: Span<'_>) -> Option<Line>
     ensures { result ≡ line_unless_met span.entry.start (length span.entry.enabled.now) place }
 {

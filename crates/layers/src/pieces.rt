@@ -4,7 +4,8 @@ ghost use Rattle.layers.specs.Cut.{cut_at, pieces};
 
 use bus::Span;
 
-// The pieces of a span, each by its first place and the place after its last. None passes a multiple of the width.
+// The pieces of a span, each by its first place and the place after its last, which are used apart and as a pair: a `Range`
+// would have to be cloned for each use. None passes a multiple of the width.
 #[derive(Drop)]
 pub(crate) struct Pieces {
     start: u32,

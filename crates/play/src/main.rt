@@ -35,6 +35,7 @@ fn main(rt: HostRuntime) -> io::Result<()> {
     let mut text = Text::new();
     let mut input = vec![in rt.alloc(); 0u8; 65536]?;
     let mut out = BufWriter::new(rt.alloc(), rt.stdout())?;
+    // a count that no input reaches, since every loop has to end
     for _ in 0..u64::MAX {
         let count = rt.stdin().read(&mut input)?;
         if count == 0 {

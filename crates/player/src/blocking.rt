@@ -37,7 +37,7 @@ fn buffer_for(call: Transfer<'_>) -> ArrayVec<u8, 128>
     }
 }
 
-// A READ of status 1 shows its bytes. The command is the number of the line, which the call may have refused.
+// A READ of status 1 shows its bytes. The command is the number that the line gives, which the call may have refused.
 fn shown_data(command: u8, status: Result<(), AccessError>, buffer: &[u8]) -> Option<&[u8]>
     ensures { option_map (λ x. x.now) result ≡ (if nat_eq command 0 && is_okay (status_of status) then Some buffer.now else None) }
 {

@@ -55,7 +55,8 @@ impl Queue {
     }
 }
 
-// Whether the event may be delivered. A port past the eighth has no open response.
+// Whether the event may be delivered. A port past the eighth has no open response. Which ports are busy is the platform's to
+// know and changes from call to call, so it is a parameter.
 fn may_deliver(busy: &[bool; 8], event: &Event) -> bool
     ensures { result ≡ permitted busy.now event.now }
 {

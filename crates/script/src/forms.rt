@@ -12,7 +12,8 @@ fn read_number(field: &[u8], radix: u32, most: usize) -> Option<u64>
         return None;
     }
     let mut n: u64 = 0;
-    // A loop, since a closure of `try_fold` would have to ask for its own bound on the number so far.
+    // A loop: the closure of a `try_fold` would need a clause that bounds the number so far, or sums that are checked
+    // though none can fail.
     for b in field {
         let digit = char::from(*b).to_digit(radix)?;
         n = n * u64::from(radix) + u64::from(digit);

@@ -19,7 +19,8 @@ fn byte_of(high: u8, low: u8) -> u8
     nibble(high) * 16 + nibble(low)
 }
 
-// The bytes of the first 256 digits.
+// The bytes of the first 256 digits. Not by the library's `hex`, which stops at what is no digit and at a half byte; nor by
+// `collect`, which may fail.
 pub fn decode(digits: &[u8]) -> ArrayVec<u8, 128>
     ensures bytes { result.items ≡ bytes_of (take 256 digits.now) }
     ensures whole { IsShort digits.now → result.items ≡ bytes_of digits.now }

@@ -6,7 +6,7 @@ use protocol::Asked;
 #[derive(Clone, Copy, Debug, PartialEq, Eq)]
 pub struct Transfer<'a> {
     pub port: u64,
-    // as it stands: any byte may be given, and the call refuses what is no command
+    // the number of its letter, or 3 for any other byte, which the call refuses as no command
     pub command: u8,
     pub address: u32,
     pub length: u64,
