@@ -1,5 +1,5 @@
 -- The beats of a payload do, one after another, what it does byte by byte.
-use Rattle.std.proofs.Common.{◌≡◌, ℕ, zero, suc, ◌+◌, ◌-◌, ◌*◌, ◌/◌, ◌%◌, ◌^◌, ◌<◌, ◌≤◌, Bool, true, false, cond, List, [], ◌∷◌, ◌++◌, length, take, drop, Option, sym, refl, ap, ◌∙◌, add_assoc, mul-le-mul_right, add-mul, one-mul, div-le_self, div-mul-le_self, arith}
+use Rattle.std.proofs.Common.{◌≡◌, ℕ, zero, suc, ◌+◌, ◌-◌, ◌*◌, ◌/◌, ◌%◌, ◌^◌, ◌<◌, ◌≤◌, Bool, true, false, cond, List, [], ◌∷◌, ◌++◌, length, take, drop, Option, sym, refl, ap, ◌∙◌, add_assoc, mul-le-mul_right, add-mul, one-mul, div-mul-le_self, arith}
 use native.Mathlib.Nat.{lt-div-mul-add, mod-add-mod}
 use Rattle.std.proofs.lemmas.Nat.{mod-mul-add}
 use Rattle.bus.specs.Map.{AddressMap, Cell, every_from, judged, present, allowed, filled, written, put, value_at}
@@ -110,9 +110,6 @@ beats_reach n s some wide =
     let b = add-mul ((n - 1) / s) 1 s in
     let c = one-mul s in
     omega arith
-
-pub few_beats : (n s : ℕ) → 1 ≤ n → (n - 1) / s + 1 ≤ n
-few_beats n s some = let a = div-le_self (n - 1) s in omega arith
 
 -- One beat more on the meter.
 pub meter_more : (t t₁ t₂ d e : ℕ) → t₁ ≡ (t + d) % 2 ^ 64 → t₂ ≡ (t₁ + e) % 2 ^ 64 → t₂ ≡ (t + (d + e)) % 2 ^ 64

@@ -1,17 +1,8 @@
 -- Which bytes of a payload are enabled.
-use Rattle.std.proofs.Common.{◌≡◌, ℕ, zero, suc, ◌+◌, ◌%◌, ◌<◌, ◌≤◌, Bool, true, false, cond, ◌&&◌, eqb, List, [], ◌∷◌, length, get_or, take, sym, refl, ap, ◌∙◌, add-zero, mod-lt, arith}
+use Rattle.std.proofs.Common.{◌≡◌, ℕ, zero, suc, ◌+◌, ◌<◌, Bool, false, ◌&&◌, List, [], ◌∷◌, length, get_or, sym, refl, ap, ◌∙◌, add-zero, arith}
 use Rattle.std.specs.List.{list_all}
-use Rattle.std.proofs.lemmas.List.{length-take-le, get_or-take, ext_get_or}
-use Rattle.std.proofs.lemmas.Bool.{cond-false, ne_eqb}
+use Rattle.std.proofs.lemmas.List.{ext_get_or}
 use Rattle.bus.specs.Payload.{is_enable, only_enables, enabled_at, marks_from}
-
-pub enabled_within : (es : List ℕ) (count i : ℕ) → 0 < count → count ≤ length es → eqb (get_or es (i % count) 0) 255 ≡ enabled_at (take count es) i
-enabled_within es count i some le =
-    let long : length (take count es) ≡ count = length-take-le count es le in
-    let below : i % count < count = mod-lt i some in
-    sym (ap (λ n. cond (eqb n 0) true (eqb (get_or (take count es) (i % n) 0) 255)) long
-    ∙ cond-false _ _ _ (ne_eqb count 0 (λ e. omega arith))
-    ∙ ap (λ b. eqb b 255) (get_or-take count es (i % count) 0 below))
 
 pub length_marks : (es : List ℕ) (i k : ℕ) → length (marks_from es i k) ≡ k
 length_marks es i zero = refl

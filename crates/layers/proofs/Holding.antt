@@ -26,9 +26,6 @@ is_in s line found e = grind arith
 by_status : (s : Status) (found : Line) → None ≡ if_okay s (Some found) None → is_okay s ≡ false
 by_status s found e = grind arith
 
-not_in : {A : Type 0} (s : Status) (found : Line) (x y : A) → None ≡ if_okay s (Some found) None → if_okay s x y ≡ y
-not_in s found x y e = grind arith
-
 the_same : (x y : Line) → Some x ≡ Some y → x ≡ y
 the_same x y e = cc
 

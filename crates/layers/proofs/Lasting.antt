@@ -10,16 +10,13 @@ use Rattle.bus.proofs.Congruence.{congruence}
 use Rattle.bus.proofs.Distance.{distance}
 use Rattle.bus.proofs.Stability.{stability}
 use Rattle.layers.specs.Cut.{cut_at}
-use Rattle.layers.specs.Lines.{whole, line_in, Sound, held_in, held_ins, meets, unless_met, line_unless_met, after_piece, after_pieces, held_after_read, held_after_write}
+use Rattle.layers.specs.Lines.{whole, line_in, Sound, held_in, held_ins, meets, unless_met, line_unless_met, after_piece, after_pieces, held_after_write}
 use Rattle.layers.specs.declared.line.Line.{Line}
-use Rattle.layers.proofs.Counting.{left, all_left, none_left, one_less, next_block}
+use Rattle.layers.proofs.Counting.{left, none_left, one_less, next_block}
 
 -- The lines held after what is left to read from place `at` on.
 abbrev pub held_after_rest : AddressMap → (a at n : ℕ) → List (Option ℕ) → List (Option ℕ)
 held_after_rest m a at n places = after_pieces m ((a + at) / 16) (left 16 a at n) places
-
-pub all_to_read : (m : AddressMap) (a at n : ℕ) (places : List (Option ℕ)) → at ≡ 0 → 1 ≤ n → held_after_rest m a at n places ≡ held_after_read m a n places
-all_to_read m a at n places zero some = let e : a + at ≡ a = omega arith in let f = ap (λ k. left 16 a k n) zero ∙ all_left 16 a n some in (λ t. after_pieces m (e t / 16) (f t) places)
 
 pub one_read : (m : AddressMap) (a at n j : ℕ) (places places' : List (Option ℕ)) → at < j → j ≤ n → j ≡ cut_at a 16 at n → places' ≡ after_piece m ((a + at) / 16) places → held_after_rest m a j n places' ≡ held_after_rest m a at n places
 one_read m a at n j places places' after within to new =
