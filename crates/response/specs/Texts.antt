@@ -3,7 +3,7 @@ use Rattle.std.specs.Prelude.{ℕ, ◌+◌, ◌/◌, ◌%◌, cond, List, [], �
 use Rattle.response.specs.declared.text.Text.{Text}
 
 abbrev pub text : Text → List ℕ
-text t = t.bytes.items
+text t = take t.len t.bytes
 
 -- x after a, cut at 256 bytes
 abbrev pub onto : List ℕ → List ℕ → List ℕ

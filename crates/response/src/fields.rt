@@ -13,7 +13,7 @@ use itoa::{Buffer, Integer};
 fn start_field(out: &mut Text)
     ensures { text out.new ≡ onto (text out.old) tab }
 {
-    out.push(b"\t");
+    out.push_byte(b'\t');
 }
 
 // TAB and the number, in decimal.
@@ -41,19 +41,14 @@ fn hex_digit(n: u8) -> u8
     if n < 10 { b'0' + n } else { b'A' + (n - 10) }
 }
 
-fn hex_byte(byte: u8) -> [u8; 2]
-    ensures { result ≡ hex_digits (byte ∷ []) }
-{
-    [hex_digit(byte / 16), hex_digit(byte % 16)]
-}
-
 // TAB and the bytes, in hexadecimal.
 fn hex_field(out: &mut Text, bytes: &[u8])
     ensures { text out.new ≡ onto (text out.old) (tab ++ hex_digits bytes.now) }
 {
     start_field(out);
     for byte in bytes {
-        out.push(&hex_byte(*byte));
+        out.push_byte(hex_digit(byte / 16));
+        out.push_byte(hex_digit(byte % 16));
     }
 }
 

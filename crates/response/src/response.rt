@@ -74,6 +74,6 @@ impl Response<'_> {
     {
         out.clear();
         self.write_fields(out);
-        out.push(b"\n");
+        out.push_byte(b'\n');
     }
 }

@@ -1,15 +1,14 @@
-use Rattle.std.proofs.Common.{◌≡◌, ℕ, ◌+◌, ◌-◌, ◌≤◌, List, ◌++◌, length, take, min, sym, ap, ◌∙◌, arith}
-use Rattle.std.proofs.Math.Seq.{take-append-add}
-use Rattle.std.proofs.lemmas.Grind.{common_steps}
-use Rattle.std.proofs.lemmas.List.{take_min}
-use Rattle.response.specs.Texts.{onto}
+use Rattle.std.proofs.Common.{sym, ◌∙◌}
+use Rattle.std.proofs.lemmas.List.{at_drop_all}
+use Rattle.response.specs.Texts.{text, onto}
+use Rattle.response.proofs.Onto.{onto_nil, byte_more}
 use Rattle.response.proofs.text.Text.push.Goals as goal
 
--- what finds room of x after a
-kept_part : (a x : List ℕ) (kept : ℕ) → length a ≤ 256 → kept ≡ min (256 - length a) (length x) → onto a x ≡ a ++ take kept x
-kept_part a x kept fits least =
-    let whole : length a + (256 - length a) ≡ 256 = omega arith in
-    sym (ap (λ n. a ++ take n x) least ∙ ap (λ y. a ++ y) (take_min (256 - length a) x) ∙ sym (take-append-add a x (256 - length a)) ∙ ap (λ n. take n (a ++ x)) whole)
+pub loop-byte-preserved : goal.loop-byte-preserved
+loop-byte-preserved c =
+    byte_more (text c.loop-byte.self) _ c.args.part.now _ c.loop-byte.byte-index c.loop-byte-test.true c.push_byte.ensures c.loop-byte.invariant
 
 pub returns : goal.returns
-returns c = grind (arith, common_steps, kept_part)
+returns c =
+    let e = at_drop_all (onto (text c.loop-byte.self)) c.args.part.now c.loop-byte.byte-index c.loop-byte-test.false in
+    sym (onto_nil c.loop-byte.self) ∙ sym e ∙ c.loop-byte.invariant
