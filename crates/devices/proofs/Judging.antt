@@ -86,7 +86,7 @@ present_writable (Some c) there right = right
 pub judged_writable : (m : AddressMap) (a : ℕ) (es : List Bool) → judged m Write a es ≡ Okay → (i : ℕ) → i < length es → writable_at (m (a + i)) ≡ true
 judged_writable m a es e i l = let at = judged_at m Write a es e i l in present_writable (m (a + i)) at.0 at.1
 
-unwritable : (bytes : List ℕ) (a : ℕ) → writable_at (image_map bytes a) ≡ false
+pub unwritable : (bytes : List ℕ) (a : ℕ) → writable_at (image_map bytes a) ≡ false
 unwritable bytes a = elim (ltb a (length bytes)) as (λ b. writable_at (cond b (Some (image_cell (get_or bytes a 0))) None) ≡ false) [ true ↦ refl | false ↦ refl ]
 
 pub image_refuses : (bytes : List ℕ) (a : ℕ) (es : List Bool) → 1 ≤ length es → judged (image_map bytes) Write a es ≡ Okay → ⊥

@@ -44,8 +44,8 @@ impl Contents for Registers {
         row.allows(command)
     }
 
-    fn put(&mut self, place: usize, value: u8) {
-        if place < self.rows.len() {
+    fn put(&mut self, place: usize, value: u8, enabled: bool) {
+        if enabled {
             self.rows[place].put(value);
         }
     }

@@ -1,4 +1,4 @@
-ghost use Rattle.std.specs.Prelude.{◌≡◌, ℕ, ◌^◌, ◌≤◌, true, List, None, Some};
+ghost use Rattle.std.specs.Prelude.{◌≡◌, ℕ, ◌^◌, ◌<◌, ◌≤◌, true, List, length, if◌then◌else◌, None, Some};
 ghost use Rattle.bus.specs.Map.{AddressMap, Cell, allowed, put};
 ghost use Rattle.devices.specs.Contents.{list_map, writable_at};
 
@@ -29,9 +29,10 @@ pub trait Contents {
     fn allows(item: Self::Item, command: Command) -> bool
         ensures { result ≡ allowed command (Some (cell item)) };
 
-    // Puts a value into the writable bits of a byte that is there and may be written.
-    fn put(&mut self, place: usize, value: u8)
-        ensures { writable_at (map self.old place) ≡ true → map self.new ≡ put place value (map self.old) };
+    // Puts a value, if it is enabled, into the writable bits of a byte that is there and may be written.
+    fn put(&mut self, place: usize, value: u8, enabled: bool)
+        requires { place < length (items self.old) }
+        ensures { writable_at (map self.old place) ≡ true → map self.new ≡ (if enabled then put place value (map self.old) else map self.old) };
 
     // the map is that of the items
     ghost listed: { (s : Self) → map s ≡ list_map blank cell (items s) };

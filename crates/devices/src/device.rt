@@ -45,11 +45,11 @@ fn fill<C: Contents>(contents: &C, span: Span<'_>, buffer: &mut [u8])
 {
     let start = span.start as usize;
     let items = contents.items();
-    // By index: of what a loop over a zip of `iter_mut` writes, no proof knows the bytes.
+    // By index: of what a loop over a zip of `iter_mut` writes, no proof knows the bytes. Each item is read and each
+    // place written, enabled or not: a loop without branches goes over many bytes at once.
     for (i, place) in buffer.iter_mut().enumerate() {
-        if span.enabled[i] {
-            *place = C::value(items[start + i]);
-        }
+        let (old, new) = (*place, C::value(items[start + i]));
+        *place = if span.enabled[i] { new } else { old };
     }
 }
 
@@ -61,9 +61,7 @@ fn store<C: Contents>(contents: &mut C, span: Span<'_>, data: &[u8])
 {
     let start = span.start as usize;
     for (i, value) in data.iter().enumerate() {
-        if span.enabled[i] {
-            contents.put(start + i, *value);
-        }
+        contents.put(start + i, *value, span.enabled[i]);
     }
 }
 

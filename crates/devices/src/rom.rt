@@ -69,7 +69,7 @@ impl<I: Image> Contents for ReadOnly<I> {
     }
 
     // No byte may be written.
-    fn put(&mut self, _place: usize, _value: u8) {}
+    fn put(&mut self, _place: usize, _value: u8, _enabled: bool) {}
 }
 
 // An image that may only be read, from address 0 on. What lies past 65,536 bytes is not present.

@@ -41,10 +41,10 @@ impl Contents for Memory {
         true
     }
 
-    fn put(&mut self, place: usize, value: u8) {
-        if place < self.bytes.len() {
-            self.bytes[place] = value;
-        }
+    // By a mask, and not by a branch: a loop over many bytes then goes over several at once.
+    fn put(&mut self, place: usize, value: u8, enabled: bool) {
+        let mask = if enabled { 0xFF } else { 0x00 };
+        self.bytes[place] = (self.bytes[place] & !mask) | (value & mask);
     }
 }
 

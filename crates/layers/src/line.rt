@@ -38,11 +38,11 @@ impl Line {
         ensures { (i : ℕ) → i < length buffer.old → slice_index buffer.new i ≡ chosen (slice_index_or span.entry.enabled.now i false) (slice_index self.now.bytes (span.entry.start % 16 + i)) (slice_index buffer.old i) }
     {
         let first = (span.start % 16) as usize;
-        // by index: of a zipped `iter_mut` only the length is known after the loop
+        // By index: of a zipped `iter_mut` only the length is known after the loop. Each byte is read and each place written,
+        // enabled or not: a loop without branches goes over many bytes at once.
         for (i, b) in buffer.iter_mut().enumerate() {
-            if span.enabled[i] {
-                *b = self.bytes[first + i];
-            }
+            let (old, new) = (*b, self.bytes[first + i]);
+            *b = if span.enabled[i] { new } else { old };
         }
     }
 }

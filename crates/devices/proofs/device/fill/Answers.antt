@@ -14,11 +14,10 @@ loop-i-preserved g c =
     let items = c.items-items.result.now in
     let listed = g.met.C.Contents.listed held ∙ ap (list_map contents.blank contents.cell) (sym c.items-items.ensures) in
     let more = λ (v : ℕ) (e : Bool). one_filled (contents.map held) a c.args.span.enabled.now c.args.buffer.now c.loop-i.buffer i v e (omega arith) (omega arith) c.loop-i.invariant in
+    let read = listed_value contents.blank contents.cell items (contents.map held) (a + i) c.index-items-start.result listed (omega (arith, ap length c.items-items.ensures)) c.index-items-start.is in
     elim c.if-span-i.branch [
-      | then-span-i w ↦
-          let read = listed_value contents.blank contents.cell items (contents.map held) (a + i) w.index-items-start.result listed (omega (arith, ap length c.items-items.ensures)) w.index-items-start.is in
-          rw w.buffer-is (more w.value.result true w.if-span-i.true (w.value.ensures ∙ read))
-      | else-span-i w ↦ rw w.buffer-is (more (get_or c.loop-i.buffer i 0) false w.if-span-i.false refl)
+      | then-span-i w ↦ rw w.place-is (more c.value-new.result true w.if-span-i.true (c.value-new.ensures ∙ read))
+      | else-span-i w ↦ rw w.place-is (more (get_or c.loop-i.buffer i 0) false w.if-span-i.false refl)
     ]
 
 pub returns : goal.returns

@@ -4,10 +4,10 @@ use Rattle.devices.specs.Rows.{no_row, row_cell, rows_map}
 use Rattle.devices.proofs.Storing.{refilled, set_put}
 use Rattle.devices.proofs.bank.RegistersContents.put.Goals as goal
 
-pub returns-then-place-len : goal.returns-then-place-len
-returns-then-place-len c = λ w.
+pub returns-then-enabled : goal.returns-then-enabled
+returns-then-enabled c writable =
     let rows = c.args.self.now.rows.items in
     let place = c.args.place in
     let row = c.put.new.self in
     let same = c.deref_mut.ensures.value in
-    rw same (ap rows_map (refilled rows (set rows place row) (length-set rows place row)) ∙ set_put no_row row_cell rows place c.args.value row w (rw same at c.put.ensures))
+    rw (c.if-enabled.true, same) (ap rows_map (refilled rows (set rows place row) (length-set rows place row)) ∙ set_put no_row row_cell rows place c.args.value row writable (rw same at c.put.ensures))
